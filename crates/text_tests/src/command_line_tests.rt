@@ -94,6 +94,11 @@ fn told(alloc: Global, line: &str) -> Result<String, Fail> {
     }
 }
 
+fn is_told(alloc: Global, line: &str, want: &str) -> Result<bool, Fail> {
+    let told = told(alloc, line)?;
+    Ok(told.as_str() == want)
+}
+
 const COMMANDS: &[(&str, &str)] = &[
     ("replay --level core", "replay core"),
     ("replay --level=node", "replay node"),
@@ -142,18 +147,13 @@ const COMMANDS: &[(&str, &str)] = &[
     ("audit", "audit"),
 ];
 
-fn read_each(alloc: Global, rows: &[(&'static str, &'static str)]) -> Result<(), Fail> {
-    for (line, command) in rows {
-        if told(alloc, line)?.as_str() != *command {
-            return Err(Fail::new(format_args!("{line}")));
-        }
-    }
-    Ok(())
-}
-
 #[test]
 fn words_are_the_command_that_they_say(rt: HostRuntime) -> Result<(), Fail> {
-    read_each(rt.alloc(), COMMANDS)
+    for (line, command) in COMMANDS {
+        let is_command = is_told(rt.alloc(), line, command)?;
+        assert!(rt; is_command, "{line}");
+    }
+    Ok(())
 }
 
 // What stands before a list of ids; and of the command what stands before them and after them.
@@ -173,31 +173,24 @@ const LISTED: &[Listed] = &[
     ("rescue --up ", "rescue of ", ""),
 ];
 
-fn is_told(alloc: Global, words: &str, last: u8, want: &str) -> Result<bool, Fail> {
+// Whether the list up to this id makes the words that command.
+fn lists(alloc: Global, words: &str, last: u8, want: &str) -> Result<bool, Fail> {
     let line = with_ids(alloc, words, last, ",", "")?;
-    Ok(told(alloc, line.as_str())?.as_str() == want)
+    is_told(alloc, line.as_str(), want)
 }
 
 // Whether 64 ids are listed, and 65 are no list.
 fn lists_64(alloc: Global, row: &Listed) -> Result<bool, Fail> {
     let (words, head, tail) = *row;
     let want = with_ids(alloc, head, 64, " ", tail)?;
-    Ok(is_told(alloc, words, 64, want.as_str())? && is_told(alloc, words, 65, "usage")?)
+    Ok(lists(alloc, words, 64, want.as_str())? && lists(alloc, words, 65, "usage")?)
 }
 
 #[test]
 fn a_list_has_up_to_64_ids(rt: HostRuntime) -> Result<(), Fail> {
     for (at, row) in LISTED.iter().enumerate() {
-        assert!(rt; lists_64(rt.alloc(), row)?, "row {at}");
-    }
-    Ok(())
-}
-
-fn refuse_each(alloc: Global, lines: &[&str]) -> Result<(), Fail> {
-    for line in lines {
-        if told(alloc, line)?.as_str() != "usage" {
-            return Err(Fail::new(format_args!("{line}")));
-        }
+        let lists_64 = lists_64(rt.alloc(), row)?;
+        assert!(rt; lists_64, "row {at}");
     }
     Ok(())
 }
@@ -239,15 +232,11 @@ const OTHER_WORDS: &[&str] = &[
     "audits",
 ];
 
-#[test]
-fn other_words_are_a_usage(rt: HostRuntime) -> Result<(), Fail> {
-    refuse_each(rt.alloc(), OTHER_WORDS)
-}
-
-fn refusal(alloc: Global, words: &[String]) -> Result<Option<ErrorKind>, AllocError> {
-    match program(alloc)?.try_get_matches_from(words) {
-        Ok(_) => Ok(None),
-        Err(error) => Ok(Some(error.kind())),
+fn is_unknown(alloc: Global, line: &str) -> Result<bool, AllocError> {
+    let words = words_of(alloc, line)?;
+    match program(alloc)?.try_get_matches_from(&words) {
+        Ok(_) => Ok(false),
+        Err(error) => Ok(error.kind() == ErrorKind::UnknownArgument),
     }
 }
 
@@ -257,11 +246,8 @@ const HELPS: &[&str] = &["--help", "replay --help"];
 #[test]
 fn clap_knows_no_help(rt: HostRuntime) -> Result<(), Fail> {
     for line in HELPS {
-        let words = words_of(rt.alloc(), line)?;
-        assert!(rt;
-            refusal(rt.alloc(), &words)? == Some(ErrorKind::UnknownArgument),
-            "{line}"
-        );
+        let is_unknown = is_unknown(rt.alloc(), line)?;
+        assert!(rt; is_unknown, "{line}");
     }
     Ok(())
 }
@@ -283,11 +269,6 @@ const NODES: &[&str] = &[
     "node --id a --dir d --listen h --peers _ --initial _ --turns 5 a",
     "node --id a --dir d --listen h --peers --initial _ --turns 5",
 ];
-
-#[test]
-fn a_node_needs_each_option_once(rt: HostRuntime) -> Result<(), Fail> {
-    refuse_each(rt.alloc(), NODES)
-}
 
 const VALUES: &[&str] = &[
     "node --id A --dir d --listen h --peers _ --initial _ --turns 5",
@@ -322,11 +303,6 @@ const VALUES: &[&str] = &[
     "node --id a --dir d --listen h --peers _ --initial _ --turns 18446744073709551616",
 ];
 
-#[test]
-fn a_node_needs_values_of_their_kinds(rt: HostRuntime) -> Result<(), Fail> {
-    refuse_each(rt.alloc(), VALUES)
-}
-
 const GENERATIONS: &[&str] = &[
     "generate",
     "generate --number 7",
@@ -343,11 +319,6 @@ const GENERATIONS: &[&str] = &[
     "generate --number 7 --steps 7 --level core",
     "generate 7 7",
 ];
-
-#[test]
-fn a_generated_schedule_has_a_number_and_few_steps(rt: HostRuntime) -> Result<(), Fail> {
-    refuse_each(rt.alloc(), GENERATIONS)
-}
 
 const TRIALS: &[&str] = &[
     "trial",
@@ -370,11 +341,6 @@ const TRIALS: &[&str] = &[
     "trial --program p --dir d --port 1 --turns 1 --",
 ];
 
-#[test]
-fn a_trial_needs_two_ports_above_its_first(rt: HostRuntime) -> Result<(), Fail> {
-    refuse_each(rt.alloc(), TRIALS)
-}
-
 const RESCUES: &[&str] = &[
     "rescue",
     "rescue a",
@@ -391,7 +357,25 @@ const RESCUES: &[&str] = &[
     "rescue --up a --",
 ];
 
+const REFUSED: &[(&str, &[&str])] = &[
+    ("other_words_are_a_usage", OTHER_WORDS),
+    ("a_node_needs_each_option_once", NODES),
+    ("a_node_needs_values_of_their_kinds", VALUES),
+    (
+        "a_generated_schedule_has_a_number_and_few_steps",
+        GENERATIONS,
+    ),
+    ("a_trial_needs_two_ports_above_its_first", TRIALS),
+    ("a_rescue_names_a_node_that_is_up", RESCUES),
+];
+
 #[test]
-fn a_rescue_names_a_node_that_is_up(rt: HostRuntime) -> Result<(), Fail> {
-    refuse_each(rt.alloc(), RESCUES)
+fn words_that_are_no_command_are_a_usage(rt: HostRuntime) -> Result<(), Fail> {
+    for (name, lines) in REFUSED {
+        for line in *lines {
+            let is_usage = is_told(rt.alloc(), line, "usage")?;
+            assert!(rt; is_usage, "{name}: {line}");
+        }
+    }
+    Ok(())
 }

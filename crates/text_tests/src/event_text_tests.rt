@@ -1,5 +1,6 @@
 //! The texts are those of the format, written out by hand.
 use crate::begun_text::{begun, goes_on};
+use crate::names::{id, ids};
 use client_lines::{Answer, LineFault, Reply as ClientReply};
 use cluster_state::{
     ApplyCommit, ClusterState, Join, PublishRequest, PublishResponse, SharedConfig, SharedState,
@@ -11,26 +12,9 @@ use policy_model::{Deed, DropCause, MemberDrop, Mode};
 use std::alloc::{AllocError, Global};
 use std::test::*;
 use text::Text;
-use voting_config::{IdList, NodeId, NodeSet};
+use voting_config::{IdList, NodeSet};
 use wire_frames::{Frame, WireMessage};
 use world_model::{Act, ActReply, Cause, Message as Sent, Outcome};
-
-fn id(text: &str) -> NodeId {
-    NodeId::parse(text).unwrap_or_default()
-}
-
-fn both() -> NodeSet {
-    let mut ids = NodeSet::new();
-    let _ = ids.insert(id("b"));
-    let _ = ids.insert(id("a"));
-    ids
-}
-
-fn only_a() -> NodeSet {
-    let mut ids = NodeSet::new();
-    let _ = ids.insert(id("a"));
-    ids
-}
 
 fn state_id(term: u64, version: u64) -> StateId {
     StateId { term, version }
@@ -38,17 +22,11 @@ fn state_id(term: u64, version: u64) -> StateId {
 
 // The state 2/1 of one voter, of the parent 1/4.
 fn state(alloc: Global) -> Result<SharedState, AllocError> {
-    let mut state = ClusterState::initial(alloc, &only_a())?;
+    let mut state = ClusterState::initial(alloc, &ids(&["a"]))?;
     state.term = 2;
     state.version = 1;
     state.parent = Some(state_id(1, 4));
     SharedState::of(alloc, state)
-}
-
-fn has_text(alloc: Global, message: &WireMessage, wanted: &str) -> Result<bool, AllocError> {
-    let mut text = begun(alloc)?;
-    write_message(&mut text, alloc, message)?;
-    goes_on(alloc, &text, wanted)
 }
 
 // The messages of the table, by their places.
@@ -67,12 +45,12 @@ fn message(alloc: Global, place: usize) -> Result<WireMessage, AllocError> {
         4 => Ok(WireMessage::Commit(state_id(1, 2))),
         5 => Ok(WireMessage::JoinAsk { term: 7 }),
         6 => Ok(WireMessage::PeersAsk {
-            known: IdList::of(alloc, &both())?,
+            known: IdList::of(alloc, &ids(&["a", "b"]))?,
         }),
         7 => Ok(WireMessage::PeersAnswer {
             master: None,
             term: 3,
-            known: IdList::of(alloc, &both())?,
+            known: IdList::of(alloc, &ids(&["a", "b"]))?,
         }),
         8 => Ok(WireMessage::PeersAnswer {
             master: Some(id("a")),
@@ -123,11 +101,18 @@ const MESSAGES: &[&str] = &[
     "leaderanswer no",
 ];
 
+// Whether the message at a place of the table has this text.
+fn has_text(alloc: Global, place: usize, wanted: &str) -> Result<bool, AllocError> {
+    let mut text = begun(alloc)?;
+    write_message(&mut text, alloc, &message(alloc, place)?)?;
+    goes_on(alloc, &text, wanted)
+}
+
 #[test]
 fn each_message_has_its_word_and_its_fields(rt: HostRuntime) -> Result<(), Fail> {
     for (place, wanted) in MESSAGES.iter().enumerate() {
-        let message = message(rt.alloc(), place)?;
-        assert!(rt; has_text(rt.alloc(), &message, wanted)?, "{wanted}");
+        let has_text = has_text(rt.alloc(), place, wanted)?;
+        assert!(rt; has_text, "{wanted}");
     }
     Ok(())
 }
@@ -147,34 +132,24 @@ fn joins() -> [Frame; 2] {
     ]
 }
 
-fn many_frames(alloc: Global) -> Result<Text, AllocError> {
-    let mut text = Text::new(alloc);
+fn write_numbered(text: &mut Text, alloc: Global) -> Result<(), AllocError> {
     let frames = joins();
-    write_frames(&mut text, alloc, 4, &frames)?;
+    write_frames(text, alloc, 4, &frames)?;
     for frame in &frames {
-        write_frame_line(&mut text, alloc, 1 << 62, frame)?;
+        write_frame_line(text, alloc, 1 << 62, frame)?;
     }
-    Ok(text)
+    Ok(())
 }
 
 const FRAMES: &str =
     "m5 a->b joinask 7\nm6 a->c prevoteask\nm4611686018427387904 a->b joinask 7\nm4611686018427387904 a->c prevoteask\n";
 
-#[test]
-fn frames_are_numbered_from_the_next_one_on(rt: HostRuntime) -> Result<(), Fail> {
-    let text = many_frames(rt.alloc())?;
-    assert!(rt; text.as_bytes() == FRAMES.as_bytes());
-    Ok(())
-}
+const MODES: &str = "mode a candidate 3\nmode a leader 3\nmode a follower b 3\n";
 
-#[test]
-fn modes_have_their_term_and_a_follower_its_leader(rt: HostRuntime) -> Result<(), Fail> {
-    let mut text = Text::new(rt.alloc());
+fn write_modes(text: &mut Text) -> Result<(), AllocError> {
     for mode in [Mode::Candidate, Mode::Leader, Mode::Follower(id("b"))] {
-        write_mode(&mut text, id("a"), mode, 3)?;
+        write_mode(text, id("a"), mode, 3)?;
     }
-    let wanted = "mode a candidate 3\nmode a leader 3\nmode a follower b 3\n";
-    assert!(rt; text.as_bytes() == wanted.as_bytes());
     Ok(())
 }
 
@@ -191,13 +166,7 @@ fn drops() -> [MemberDrop; 2] {
     ]
 }
 
-#[test]
-fn drops_have_their_cause(rt: HostRuntime) -> Result<(), Fail> {
-    let mut text = Text::new(rt.alloc());
-    write_drops(&mut text, id("a"), &drops())?;
-    assert!(rt; text.as_bytes() == b"drop a b checks\ndrop a c lag\n".as_slice());
-    Ok(())
-}
+const DROPS: &str = "drop a b checks\ndrop a c lag\n";
 
 fn replies() -> [Outgoing; 2] {
     [
@@ -216,14 +185,6 @@ fn replies() -> [Outgoing; 2] {
 }
 
 const REPLIES: &str = "reply a {\"id\":7,\"not_master\":null}\nreply a {\"error\":\"not_json\"}\n";
-
-#[test]
-fn replies_are_json_behind_the_node(rt: HostRuntime) -> Result<(), Fail> {
-    let mut text = Text::new(rt.alloc());
-    write_replies(&mut text, rt.alloc(), id("a"), &replies())?;
-    assert!(rt; text.as_bytes() == REPLIES.as_bytes());
-    Ok(())
-}
 
 fn request(alloc: Global) -> Result<PublishRequest, AllocError> {
     Ok(PublishRequest {
@@ -272,39 +233,23 @@ const WINNING: &str = "act a ok join b a 2 0/0\n\
     reply a {\"id\":7,\"not_master\":null}\n\
     reply a {\"error\":\"not_json\"}\n";
 
-fn event(alloc: Global, published: &mut Option<SharedState>) -> Result<Text, AllocError> {
+fn write_winning(
+    text: &mut Text,
+    alloc: Global,
+    last: &mut Option<SharedState>,
+) -> Result<(), AllocError> {
     let deeds = winning(alloc)?;
-    let mut text = Text::new(alloc);
     write_event(
-        &mut text,
+        text,
         alloc,
         4,
         id("a"),
-        published,
+        last,
         &deeds,
         &drops(),
         &joins(),
         &replies(),
-    )?;
-    Ok(text)
-}
-
-fn is_state(published: &Option<SharedState>, wanted: StateId) -> bool {
-    match published {
-        Some(state) => state.id() == wanted,
-        None => false,
-    }
-}
-
-#[test]
-fn an_event_shows_acts_and_modes_then_drops_then_frames_then_replies(
-    rt: HostRuntime,
-) -> Result<(), Fail> {
-    let mut published = None;
-    let text = event(rt.alloc(), &mut published)?;
-    assert!(rt; text.as_bytes() == WINNING.as_bytes());
-    assert!(rt; is_state(&published, state_id(2, 1)));
-    Ok(())
+    )
 }
 
 fn response() -> Deed {
@@ -333,7 +278,7 @@ fn accepting(alloc: Global, outcome: Outcome) -> Result<Deed, AllocError> {
 }
 
 fn booting(alloc: Global) -> Result<Deed, AllocError> {
-    let initial = SharedState::of(alloc, ClusterState::initial(alloc, &both())?)?;
+    let initial = SharedState::of(alloc, ClusterState::initial(alloc, &ids(&["a", "b"]))?)?;
     Ok(Deed::Act(
         Act::Bootstrap(SharedConfig::of(initial)),
         Outcome::Disk(true),
@@ -364,37 +309,26 @@ const RESPONDING: &str = "act a ok response b a 2/1\n\
     act a crashed publish a {\"committed\":[\"a\"],\"config\":[\"a\"],\"parent\":{\"term\":1,\"version\":4},\"term\":2,\"value\":{\"exclusions\":[],\"master\":null,\"members\":[],\"settings\":{}},\"version\":1}\n\
     act a disk boot a,b\n";
 
-fn deeds_text(
+// What was published last is the state of the response.
+fn write_responding(
+    text: &mut Text,
     alloc: Global,
-    published: &mut Option<SharedState>,
-    deeds: &[Deed],
-) -> Result<Text, AllocError> {
-    let mut text = Text::new(alloc);
-    write_deeds(&mut text, alloc, id("a"), published, deeds)?;
-    Ok(text)
-}
-
-#[test]
-fn a_response_that_sends_a_commit_shows_what_was_published_last(
-    rt: HostRuntime,
-) -> Result<(), Fail> {
-    let mut published = Some(state(rt.alloc())?);
-    let text = deeds_text(rt.alloc(), &mut published, &responding(rt.alloc())?)?;
-    assert!(rt; text.as_bytes() == RESPONDING.as_bytes());
-    Ok(())
+    last: &mut Option<SharedState>,
+) -> Result<(), AllocError> {
+    *last = Some(state(alloc)?);
+    write_deeds(text, alloc, id("a"), last, &responding(alloc)?)
 }
 
 const ACCEPTING: &str =
     "act a ok publish a {\"committed\":[\"a\"],\"config\":[\"a\"],\"parent\":{\"term\":1,\"version\":4},\"term\":2,\"value\":{\"exclusions\":[],\"master\":null,\"members\":[],\"settings\":{}},\"version\":1}\n";
 
-#[test]
-fn a_state_that_was_accepted_was_not_published(rt: HostRuntime) -> Result<(), Fail> {
-    let deed = accepting(rt.alloc(), taken(None, false))?;
-    let mut published = None;
-    let text = deeds_text(rt.alloc(), &mut published, &[deed])?;
-    assert!(rt; text.as_bytes() == ACCEPTING.as_bytes());
-    assert!(rt; published.is_none());
-    Ok(())
+fn write_accepting(
+    text: &mut Text,
+    alloc: Global,
+    last: &mut Option<SharedState>,
+) -> Result<(), AllocError> {
+    let deed = accepting(alloc, taken(None, false))?;
+    write_deeds(text, alloc, id("a"), last, &[deed])
 }
 
 fn struck() -> [Deed; 2] {
@@ -404,22 +338,124 @@ fn struck() -> [Deed; 2] {
     ]
 }
 
-fn struck_text(alloc: Global, last: &mut Option<SharedState>) -> Result<Text, AllocError> {
+fn write_struck(
+    text: &mut Text,
+    alloc: Global,
+    last: &mut Option<SharedState>,
+) -> Result<(), AllocError> {
     let deeds = struck();
-    let mut text = Text::new(alloc);
-    write_struck_deeds(&mut text, alloc, id("a"), last, &deeds, false)?;
-    write_struck_event(&mut text, alloc, id("a"), last, &deeds, &drops(), true)?;
-    Ok(text)
+    write_struck_deeds(text, alloc, id("a"), last, &deeds, false)?;
+    write_struck_event(text, alloc, id("a"), last, &deeds, &drops(), true)
 }
 
 const STRUCK: &str =
     "mode a candidate 2\nact a disk startjoin b 3\nmode a candidate 2\nact a crashed startjoin b 3\ndrop a b checks\ndrop a c lag\n";
 
-#[test]
-fn an_act_in_which_the_node_stopped_is_shown_as_crashed(rt: HostRuntime) -> Result<(), Fail> {
+// What is shown of node a.
+#[derive(Clone, Copy)]
+enum Shown {
+    Frames,
+    Modes,
+    Drops,
+    Replies,
+    Winning,
+    Responding,
+    Accepting,
+    Struck,
+}
+
+// Writes it, and keeps the state that was published last.
+fn write_shown(
+    text: &mut Text,
+    alloc: Global,
+    last: &mut Option<SharedState>,
+    shown: Shown,
+) -> Result<(), AllocError> {
+    match shown {
+        Shown::Frames => write_numbered(text, alloc),
+        Shown::Modes => write_modes(text),
+        Shown::Drops => write_drops(text, id("a"), &drops()),
+        Shown::Replies => write_replies(text, alloc, id("a"), &replies()),
+        Shown::Winning => write_winning(text, alloc, last),
+        Shown::Responding => write_responding(text, alloc, last),
+        Shown::Accepting => write_accepting(text, alloc, last),
+        Shown::Struck => write_struck(text, alloc, last),
+    }
+}
+
+// Whether the state 2/1 was published last, or none where none is to be.
+fn is_last(last: &Option<SharedState>, publishes: bool) -> bool {
+    match last {
+        Some(state) => publishes && state.id() == state_id(2, 1),
+        None => !publishes,
+    }
+}
+
+// Whether it has this text, and leaves a state that was published last.
+fn is_shown(
+    alloc: Global,
+    shown: Shown,
+    wanted: &str,
+    publishes: bool,
+) -> Result<bool, AllocError> {
     let mut last = None;
-    let text = struck_text(rt.alloc(), &mut last)?;
-    assert!(rt; text.as_bytes() == STRUCK.as_bytes());
-    assert!(rt; last.is_none());
+    let mut text = begun(alloc)?;
+    write_shown(&mut text, alloc, &mut last, shown)?;
+    Ok(is_last(&last, publishes) && goes_on(alloc, &text, wanted)?)
+}
+
+// What is shown, its text, and whether a state was published last then.
+const ROWS: &[(&str, Shown, &str, bool)] = &[
+    (
+        "frames_are_numbered_from_the_next_one_on",
+        Shown::Frames,
+        FRAMES,
+        false,
+    ),
+    (
+        "modes_have_their_term_and_a_follower_its_leader",
+        Shown::Modes,
+        MODES,
+        false,
+    ),
+    ("drops_have_their_cause", Shown::Drops, DROPS, false),
+    (
+        "replies_are_json_behind_the_node",
+        Shown::Replies,
+        REPLIES,
+        false,
+    ),
+    (
+        "an_event_shows_acts_and_modes_then_drops_then_frames_then_replies",
+        Shown::Winning,
+        WINNING,
+        true,
+    ),
+    (
+        "a_response_that_sends_a_commit_shows_what_was_published_last",
+        Shown::Responding,
+        RESPONDING,
+        true,
+    ),
+    (
+        "a_state_that_was_accepted_was_not_published",
+        Shown::Accepting,
+        ACCEPTING,
+        false,
+    ),
+    (
+        "an_act_in_which_the_node_stopped_is_shown_as_crashed",
+        Shown::Struck,
+        STRUCK,
+        false,
+    ),
+];
+
+#[test]
+fn what_a_node_does_has_its_lines(rt: HostRuntime) -> Result<(), Fail> {
+    for (name, shown, wanted, publishes) in ROWS {
+        let is_shown = is_shown(rt.alloc(), *shown, wanted, *publishes)?;
+        assert!(rt; is_shown, "{name}");
+    }
     Ok(())
 }

@@ -11,6 +11,8 @@ mod event_text_tests;
 #[cfg(test)]
 mod long_lists;
 #[cfg(test)]
+mod names;
+#[cfg(test)]
 mod schedule_generator_tests;
 #[cfg(test)]
 mod schedule_text_tests;

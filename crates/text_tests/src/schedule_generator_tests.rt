@@ -1,6 +1,6 @@
 //! The lines that numbers give, also as a second generator draws them. The lines follow from the draws of docs/formats.md.
 use schedule_generator::{Generator, empty_schedule};
-use schedule_text::{Level, Line, Lines, Schedule, read_schedule, write_line, write_schedule};
+use schedule_text::{Level, Line, Lines, read_schedule, write_line, write_schedule};
 use std::alloc::{AllocError, Global};
 use std::test::Fail;
 use text::Text;
@@ -51,66 +51,71 @@ const SEVEN: &str = "boot a\n\
     deliver d 16\n\
     fuse c 4 torn:a5\n";
 
-#[test]
-fn a_number_gives_these_lines(rt: HostRuntime) -> Result<(), Fail> {
-    let lines = lines(rt.alloc(), 7, 24)?;
-    let text = text_of(rt.alloc(), lines.as_slice())?;
-    assert!(rt; text.as_bytes() == SEVEN.as_bytes());
-    Ok(())
-}
-
-// Whether this is the last of so many lines of a number.
-fn is_last(alloc: Global, number: u64, steps: u64, wanted: &str) -> Result<bool, AllocError> {
+// Whether of so many lines of a number those after the first ones have this text.
+fn are_drawn(
+    alloc: Global,
+    number: u64,
+    (first, steps): (usize, u64),
+    wanted: &str,
+) -> Result<bool, AllocError> {
     let lines = lines(alloc, number, steps)?;
-    let Some(line) = lines.as_slice().last() else {
+    let Some(last) = lines.as_slice().get(first..) else {
         return Ok(false);
     };
-    let mut text = Text::new(alloc);
-    write_line(&mut text, line)?;
+    let text = text_of(alloc, last)?;
     Ok(text.as_bytes() == wanted.as_bytes())
 }
 
-// What the second generator draws of other forms: each configuration, each way in which a disk is left, a later term,
-// and a message that lies as far back as there are messages.
-const DRAWN: &[(u64, u64, &str)] = &[
-    (7, 31, "value a 31 s30 a,b"),
-    (7, 36, "fuse b 4 none"),
-    (7, 38, "fuse d 3 all"),
-    (7, 40, "value a 40 s39 b,c,d"),
-    (7, 107, "crash a none"),
-    (7, 109, "startjoin c b 2"),
-    (7, 156, "value b 156 s155 a,b,c"),
-    (18, 4, "deliver c 1"),
+// A number, how many of its lines are drawn and how many of them are not looked at, and the text of the others. After the first row: what
+// the second generator draws of other forms, each configuration, each way in which a disk is left, a later term, and a message that lies
+// as far back as there are messages.
+const DRAWN: &[(&str, u64, u64, usize, &str)] = &[
+    ("a_number_gives_these_lines", 7, 24, 0, SEVEN),
+    ("each_form_is_drawn", 7, 31, 30, "value a 31 s30 a,b\n"),
+    ("each_form_is_drawn", 7, 36, 35, "fuse b 4 none\n"),
+    ("each_form_is_drawn", 7, 38, 37, "fuse d 3 all\n"),
+    ("each_form_is_drawn", 7, 40, 39, "value a 40 s39 b,c,d\n"),
+    ("each_form_is_drawn", 7, 107, 106, "crash a none\n"),
+    ("each_form_is_drawn", 7, 109, 108, "startjoin c b 2\n"),
+    (
+        "each_form_is_drawn",
+        7,
+        156,
+        155,
+        "value b 156 s155 a,b,c\n",
+    ),
+    ("each_form_is_drawn", 18, 4, 3, "deliver c 1\n"),
 ];
 
 #[test]
-fn each_form_is_drawn(rt: HostRuntime) -> Result<(), Fail> {
-    for (number, steps, wanted) in DRAWN {
-        assert!(rt; is_last(rt.alloc(), *number, *steps, wanted)?, "{wanted}");
+fn numbers_give_their_lines(rt: HostRuntime) -> Result<(), Fail> {
+    for (name, number, steps, first, wanted) in DRAWN {
+        let are_drawn = are_drawn(rt.alloc(), *number, (*first, *steps), wanted)?;
+        assert!(rt; are_drawn, "{name}: {wanted}");
     }
     Ok(())
 }
 
-fn generated(alloc: Global, number: u64, steps: u64) -> Result<Schedule, AllocError> {
+fn generated(alloc: Global, number: u64, steps: u64) -> Result<Text, AllocError> {
     let lines = lines(alloc, number, steps)?;
     let mut schedule = empty_schedule(alloc);
     schedule.lines = Lines::of(lines);
-    Ok(schedule)
+    write_schedule(alloc, &schedule)
 }
 
-// Whether the schedule of this text has so many lines, and is printed as this text.
-fn is_read_back(alloc: Global, text: &Text, steps: usize) -> Result<bool, AllocError> {
+// Whether the text of a number's schedule has so many lines, and is printed as it was read.
+fn is_read_back(alloc: Global, number: u64, steps: u64) -> Result<bool, AllocError> {
+    let text = generated(alloc, number, steps)?;
     let Ok(read) = read_schedule(alloc, text.as_bytes(), Level::Core) else {
         return Ok(false);
     };
     let again = write_schedule(alloc, &read)?;
-    Ok(read.lines.as_slice().len() == steps && again.as_bytes() == text.as_bytes())
+    Ok(read.lines.as_slice().len() as u64 == steps && again.as_bytes() == text.as_bytes())
 }
 
 #[test]
 fn a_schedule_is_read_back_from_its_text(rt: HostRuntime) -> Result<(), Fail> {
-    let schedule = generated(rt.alloc(), 11, 300)?;
-    let text = write_schedule(rt.alloc(), &schedule)?;
-    assert!(rt; is_read_back(rt.alloc(), &text, 300)?);
+    let is_read_back = is_read_back(rt.alloc(), 11, 300)?;
+    assert!(rt; is_read_back);
     Ok(())
 }

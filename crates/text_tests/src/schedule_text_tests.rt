@@ -4,54 +4,66 @@ use schedule_text::{
     BadSchedule, Level, Line, ReadError, WhyBad, read_schedule, write_bad_schedule, write_schedule,
 };
 use std::alloc::{AllocError, Global};
+use std::process::Abort;
 use std::test::Fail;
 use text::Text;
 use zen_disk::Way;
 
 const HEADER: &[u8] = b"nodes a\ninitial a\n";
 
-// The line and the reason of a text's fault.
-fn fault(alloc: Global, level: Level, text: &[u8]) -> Option<(usize, WhyBad)> {
+// The line of a text's fault and its reason, where it has one.
+type Fault = Option<(usize, WhyBad)>;
+
+fn fault(alloc: Global, level: Level, text: &[u8]) -> Result<Fault, AllocError> {
     match read_schedule(alloc, text, level) {
-        Err(ReadError::Bad(bad)) => Some((bad.line, bad.why)),
-        _ => None,
+        Ok(_) => Ok(None),
+        Err(ReadError::Bad(bad)) => Ok(Some((bad.line, bad.why))),
+        Err(ReadError::Memory) => Err(AllocError),
     }
 }
 
-// A text with so many times these bytes after a header.
-fn many(alloc: Global, count: usize, bytes: &[u8]) -> Option<Vec<u8>> {
-    let Ok(mut text) = Vec::from_slice(alloc, HEADER) else {
-        return None;
-    };
-    for _ in 0..count {
-        if text.extend_from_slice(bytes).is_err() {
-            return None;
+// Whether a text has this fault at each of these levels, or is read at each.
+fn has_fault(
+    alloc: Global,
+    levels: &[Level],
+    text: &[u8],
+    wanted: Fault,
+) -> Result<bool, AllocError> {
+    for level in levels {
+        if fault(alloc, *level, text)? != wanted {
+            return Ok(false);
         }
     }
-    Some(text)
+    Ok(true)
 }
 
-// The fault of a text with so many times these bytes after a header.
-fn fault_of_many(
+const CORE: &[Level] = &[Level::Core];
+
+const NODE: &[Level] = &[Level::Node];
+
+const BOTH: &[Level] = &[Level::Core, Level::Node];
+
+// Whether a text has this fault that begins so, goes on with so many times the same bytes, and ends so.
+fn has_fault_with(
     alloc: Global,
-    level: Level,
-    count: usize,
-    bytes: &[u8],
-) -> Option<(usize, WhyBad)> {
-    match many(alloc, count, bytes) {
-        Some(text) => fault(alloc, level, text.as_slice()),
-        None => None,
-    }
+    levels: &[Level],
+    (head, part, count, end): (&[u8], &[u8], usize, &[u8]),
+    wanted: Fault,
+) -> Result<bool, AllocError> {
+    let mut text = Vec::from_slice(alloc, head)?;
+    text.extend_from_slice(&part.repeat(alloc, count)?)?;
+    text.extend_from_slice(end)?;
+    has_fault(alloc, levels, text.as_slice(), wanted)
 }
 
-// Whether a text with this line after its header is bad there, for this reason.
-fn third_line_is_bad(alloc: Global, level: Level, line: &str, why: WhyBad) -> bool {
-    fault_of_many(alloc, level, 1, line.as_bytes()) == Some((3, why))
-}
-
-fn third_lines_are_bad(alloc: Global, level: Level, rows: &[(&str, WhyBad)]) -> Result<(), Fail> {
+fn third_lines_are_bad(
+    alloc: Global,
+    levels: &[Level],
+    rows: &[(&str, WhyBad)],
+) -> Result<(), Fail> {
     for (line, why) in rows {
-        if !third_line_is_bad(alloc, level, line, *why) {
+        let parts = (HEADER, line.as_bytes(), 1, b"".as_slice());
+        if !has_fault_with(alloc, levels, parts, Some((3, *why)))? {
             return Err(Fail::new(format_args!("at {line}")));
         }
     }
@@ -102,7 +114,7 @@ const CORE_LINES: &[(&str, WhyBad)] = &[
 
 #[test]
 fn names_the_reason_of_a_third_line_at_level_core(rt: HostRuntime) -> Result<(), Fail> {
-    third_lines_are_bad(rt.alloc(), Level::Core, CORE_LINES)
+    third_lines_are_bad(rt.alloc(), CORE, CORE_LINES)
 }
 
 const NODE_LINES: &[(&str, WhyBad)] = &[
@@ -142,48 +154,94 @@ const NODE_LINES: &[(&str, WhyBad)] = &[
 
 #[test]
 fn names_the_reason_of_a_third_line_at_level_node(rt: HostRuntime) -> Result<(), Fail> {
-    third_lines_are_bad(rt.alloc(), Level::Node, NODE_LINES)
+    third_lines_are_bad(rt.alloc(), NODE, NODE_LINES)
 }
 
-// A text, the line that is bad at both levels, and why.
-type Header = (&'static str, usize, WhyBad);
-
-const HEADERS: &[Header] = &[
-    ("nodes a\ninitial _\n", 2, WhyBad::Header),
-    ("nodes a\ninitial b\n", 2, WhyBad::Header),
-    ("nodes a\ninitial a", 2, WhyBad::NoNewline),
-    ("nodes a\n", 2, WhyBad::Header),
-    ("nodes a", 1, WhyBad::NoNewline),
-    ("nodes b,a\n", 1, WhyBad::Header),
-    ("\n", 1, WhyBad::Header),
+// A text with its fault at these levels.
+const FAULTS: &[(&str, &[Level], &str, Fault)] = &[
+    (
+        "names_the_reason_of_a_header",
+        BOTH,
+        "nodes a\ninitial _\n",
+        Some((2, WhyBad::Header)),
+    ),
+    (
+        "names_the_reason_of_a_header",
+        BOTH,
+        "nodes a\ninitial b\n",
+        Some((2, WhyBad::Header)),
+    ),
+    (
+        "names_the_reason_of_a_header",
+        BOTH,
+        "nodes a\ninitial a",
+        Some((2, WhyBad::NoNewline)),
+    ),
+    (
+        "names_the_reason_of_a_header",
+        BOTH,
+        "nodes a\n",
+        Some((2, WhyBad::Header)),
+    ),
+    (
+        "names_the_reason_of_a_header",
+        BOTH,
+        "nodes a",
+        Some((1, WhyBad::NoNewline)),
+    ),
+    (
+        "names_the_reason_of_a_header",
+        BOTH,
+        "nodes b,a\n",
+        Some((1, WhyBad::Header)),
+    ),
+    (
+        "names_the_reason_of_a_header",
+        BOTH,
+        "\n",
+        Some((1, WhyBad::Header)),
+    ),
+    ("names_the_reason_of_a_header", BOTH, "", None),
+    (
+        "names_the_reason_of_a_header",
+        BOTH,
+        "nodes a\ninitial a\n",
+        None,
+    ),
+    // a third header line does not stand third
+    (
+        "takes_a_third_header_line_at_its_place_alone",
+        NODE,
+        "nodes a\ninitial a\nvoting-only a\nvoting-only a\n",
+        Some((4, WhyBad::Verb)),
+    ),
+    (
+        "takes_a_third_header_line_at_its_place_alone",
+        NODE,
+        "nodes a\ninitial a\ntick a 0 0\nvoting-only a\n",
+        Some((4, WhyBad::Verb)),
+    ),
+    (
+        "takes_a_third_header_line_at_its_place_alone",
+        NODE,
+        "nodes a\ninitial a\nvoting-only a\ntick a 0 0\nboot a\n",
+        Some((5, WhyBad::Verb)),
+    ),
+    (
+        "counts_the_lines_before_a_bad_one",
+        CORE,
+        "nodes a\ninitial a\nrestart a\nfail a 10\nrestart z\n",
+        Some((5, WhyBad::Id)),
+    ),
 ];
 
-// Whether a text is bad at both levels.
-fn is_bad_at(alloc: Global, text: &[u8], line: usize, why: WhyBad) -> bool {
-    let want = Some((line, why));
-    fault(alloc, Level::Core, text) == want && fault(alloc, Level::Node, text) == want
-}
-
-fn is_bad_header(alloc: Global, row: &Header) -> bool {
-    let (text, line, why) = *row;
-    is_bad_at(alloc, text.as_bytes(), line, why)
-}
-
-fn is_read(alloc: Global, text: &[u8]) -> bool {
-    read_schedule(alloc, text, Level::Core).is_ok()
-        && read_schedule(alloc, text, Level::Node).is_ok()
-}
-
-fn are_read(alloc: Global) -> bool {
-    is_read(alloc, b"") && is_read(alloc, HEADER)
-}
-
 #[test]
-fn names_the_reason_of_a_header(rt: HostRuntime) {
-    for (at, row) in HEADERS.iter().enumerate() {
-        assert!(rt; is_bad_header(rt.alloc(), row), "row {at}");
+fn names_the_first_fault_of_a_text(rt: HostRuntime) -> Result<(), Fail> {
+    for (name, levels, text, wanted) in FAULTS {
+        let has_fault = has_fault(rt.alloc(), levels, text.as_bytes(), *wanted)?;
+        assert!(rt; has_fault, "{name}: {text}");
     }
-    assert!(rt; are_read(rt.alloc()));
+    Ok(())
 }
 
 // A header with so many nodes and so many first voters.
@@ -192,261 +250,236 @@ fn header(alloc: Global, nodes: u8, voters: u8) -> Result<String, AllocError> {
     with_ids(alloc, head.as_str(), voters, ",", "\n")
 }
 
-fn is_long_header(alloc: Global, nodes: u8, voters: u8, bad: Option<usize>) -> bool {
-    match header(alloc, nodes, voters) {
-        Ok(text) => match bad {
-            None => is_read(alloc, text.as_bytes()),
-            Some(line) => is_bad_at(alloc, text.as_bytes(), line, WhyBad::Header),
-        },
-        Err(_) => false,
-    }
-}
-
-// How many nodes and how many first voters, and the line that is bad then.
-const LONG_HEADERS: &[(u8, u8, Option<usize>)] = &[
-    (64, 64, None),
-    (65, 64, Some(1)),
-    (64, 65, Some(2)),
-];
-
-#[test]
-fn a_header_lists_up_to_64_ids(rt: HostRuntime) {
-    for (nodes, voters, bad) in LONG_HEADERS {
-        assert!(rt;
-            is_long_header(rt.alloc(), *nodes, *voters, *bad),
-            "{nodes} and {voters}"
-        );
-    }
-}
-
-// Where a third header line does not stand third.
-const LATER: &[(&str, usize)] = &[
-    ("nodes a\ninitial a\nvoting-only a\nvoting-only a\n", 4),
-    ("nodes a\ninitial a\ntick a 0 0\nvoting-only a\n", 4),
-    ("nodes a\ninitial a\nvoting-only a\ntick a 0 0\nboot a\n", 5),
-];
-
-#[test]
-fn takes_a_third_header_line_at_its_place_alone(rt: HostRuntime) {
-    let a = rt.alloc();
-    for (text, line) in LATER {
-        assert!(rt;
-            fault(a, Level::Node, text.as_bytes()) == Some((*line, WhyBad::Verb)),
-            "at {text}"
-        );
-    }
-}
-
-#[test]
-fn counts_the_lines_before_a_bad_one(rt: HostRuntime) {
-    let text = b"nodes a\ninitial a\nrestart a\nfail a 10\nrestart z\n";
-    assert!(rt; fault(rt.alloc(), Level::Core, text) == Some((5, WhyBad::Id)));
-}
-
-// Whether the schedule that a text spells is printed as that text.
-fn prints_itself(alloc: Global, level: Level, text: &[u8]) -> bool {
-    let Ok(schedule) = read_schedule(alloc, text, level) else {
-        return false;
-    };
-    match write_schedule(alloc, &schedule) {
-        Ok(printed) => printed.as_bytes() == text,
-        Err(_) => false,
-    }
-}
-
-#[test]
-fn prints_what_it_has_read(rt: HostRuntime) {
-    let text =
-        b"nodes a,b\ninitial a\nboot a\nstartjoin a b 18446744073709551615\nvalue b 0 x-1 _\nvalue b 7 x a,b\ndeliver a 4294967295\n";
-    assert!(rt; prints_itself(rt.alloc(), Level::Core, text));
-}
-
-#[test]
-fn prints_each_stop_that_it_has_read(rt: HostRuntime) {
-    let text =
-        b"nodes a,b\ninitial a\ncrash b none\ncrash b all\ncrash b torn:09\nrestart b\nfuse a 1 torn:af\nfuse a 4294967295 none\nfail b 10\n";
-    assert!(rt; prints_itself(rt.alloc(), Level::Core, text));
-}
-
-#[test]
-fn prints_what_it_has_read_at_level_node(rt: HostRuntime) {
-    let text = b"nodes a,b\n\
-        initial a\n\
-        tick a 0 0\n\
-        tick b 4611686018427387904 18446744073709551615\n\
-        client a \n\
-        client b  get  x \n\
-        client a \xff\x00\x80\n\
-        deliver a 1\n\
-        crash a torn:09\n\
-        restart a\n\
-        fuse b 1 all\n\
-        fail b 10\n";
-    assert!(rt; prints_itself(rt.alloc(), Level::Node, text));
-}
-
-#[test]
-fn prints_the_voting_only_nodes_that_it_has_read(rt: HostRuntime) {
-    let alone = b"nodes v\ninitial v\nvoting-only v\n";
-    let some = b"nodes a,b,v,w\ninitial a,b,v\nvoting-only b,v\ntick a 0 0\n";
-    assert!(rt; prints_itself(rt.alloc(), Level::Node, alone));
-    assert!(rt; prints_itself(rt.alloc(), Level::Node, some));
-}
-
-// Whether a line is this one of a client.
-fn is_client(line: &Line, shown: &str) -> bool {
-    match line {
-        Line::Client(_, bytes) => bytes.as_slice() == shown.as_bytes(),
-        _ => false,
-    }
-}
-
-fn shows_client(alloc: Global, text: &str, shown: &str) -> bool {
-    let Ok(schedule) = read_schedule(alloc, text.as_bytes(), Level::Node) else {
-        return false;
-    };
-    match schedule.lines.as_slice().first() {
-        Some(line) => is_client(line, shown),
-        None => false,
-    }
-}
-
-const CLIENTS: &[(&str, &str)] = &[
-    ("nodes a\ninitial a\nclient a put x  1 \n", "put x  1 "),
-    ("nodes a\ninitial a\nclient a \n", ""),
-];
-
-#[test]
-fn shows_a_clients_line_with_its_spaces(rt: HostRuntime) {
-    for (text, shown) in CLIENTS {
-        assert!(rt; shows_client(rt.alloc(), text, shown), "{shown}");
-    }
-}
-
-// What a first line is, where it is a crash that tears to a byte, or a value: the version, the length of its text and
-// the number of its nodes.
-#[derive(Clone, Copy, PartialEq, Eq)]
-enum First {
-    Torn(u8),
-    Value(u64, usize, usize),
-    Other,
-}
-
-fn shown_by(line: &Line) -> First {
-    match line {
-        Line::Crash(_, Way::Torn(byte)) => First::Torn(*byte),
-        Line::Value(_, version, text, config) => {
-            First::Value(*version, text.get().as_str().len(), config.lend().len())
-        }
-        _ => First::Other,
-    }
-}
-
-fn first_of(alloc: Global, text: &str) -> First {
-    let Ok(schedule) = read_schedule(alloc, text.as_bytes(), Level::Core) else {
-        return First::Other;
-    };
-    match schedule.lines.as_slice().first() {
-        Some(line) => shown_by(line),
-        None => First::Other,
-    }
-}
-
-#[test]
-fn shows_a_torn_byte(rt: HostRuntime) {
-    let first = first_of(rt.alloc(), "nodes a,b\ninitial a\ncrash b torn:a7\n");
-    assert!(rt; first == First::Torn(167));
-}
-
-#[test]
-fn shows_a_value(rt: HostRuntime) {
-    let first = first_of(rt.alloc(), "nodes a,b\ninitial a\nvalue b 7 x-1 a,b\n");
-    assert!(rt; first == First::Value(7, 3, 2));
-}
-
-fn write_fault(text: &mut Text) -> Result<(), AllocError> {
-    write_bad_schedule(
-        text,
-        &BadSchedule {
-            line: 3,
-            why: WhyBad::Id,
-        },
-    )
-}
-
-fn has_begun(text: &mut Text) -> bool {
-    text.word("act ").is_ok() && text.len() == 4
-}
-
-fn shows_fault(text: &mut Text) -> bool {
-    write_fault(text).is_ok() && text.as_bytes() == b"zen: bad schedule at line 3: Id\n".as_slice()
-}
-
-#[test]
-fn prints_a_fault(rt: HostRuntime) {
-    let mut text = Text::new(rt.alloc());
-    assert!(rt; has_begun(&mut text));
-    text.clear();
-    assert!(rt; shows_fault(&mut text));
-}
-
-// Whether a text of a million lines is read, and not with a line more.
-fn reads_a_million(alloc: Global) -> Option<bool> {
-    let mut text = many(alloc, 999998, b"deliver a 1\n")?;
-    let is_read = read_schedule(alloc, text.as_slice(), Level::Core).is_ok();
-    text.push(b'x').ok()?;
-    let fault = fault(alloc, Level::Core, text.as_slice());
-    Some(is_read && fault == Some((1000001, WhyBad::TooMany)))
-}
-
-#[test]
-fn takes_a_million_lines(rt: HostRuntime) {
-    assert!(rt; reads_a_million(rt.alloc()) == Some(true));
-}
-
-// The fault of a text with so many times this byte after a header.
-fn fault_of_big(
+fn has_header_fault(
     alloc: Global,
-    header: &[u8],
-    byte: u8,
-    count: usize,
-) -> Result<Option<(usize, WhyBad)>, AllocError> {
-    let rest = vec![in alloc; byte; count]?;
-    let mut text = Vec::from_slice(alloc, header)?;
-    text.extend_from_slice(&rest)?;
-    Ok(fault(alloc, Level::Core, text.as_slice()))
+    nodes: u8,
+    voters: u8,
+    wanted: Fault,
+) -> Result<bool, AllocError> {
+    let text = header(alloc, nodes, voters)?;
+    has_fault(alloc, BOTH, text.as_bytes(), wanted)
 }
 
-// Texts of 16,777,217 bytes. Where the first line is bad, that comes first.
-const BIG: &[(&[u8], u8, usize, usize, WhyBad)] = &[
-    (HEADER, b'x', 16_777_199, 3, WhyBad::TooBig),
-    (b"", b'\n', 16_777_217, 1, WhyBad::Header),
+// How many nodes and how many first voters, and the fault of such a header at both levels.
+const LONG_HEADERS: &[(u8, u8, Fault)] = &[
+    (64, 64, None),
+    (65, 64, Some((1, WhyBad::Header))),
+    (64, 65, Some((2, WhyBad::Header))),
 ];
 
 #[test]
-fn names_a_text_that_is_too_big(rt: HostRuntime) -> Result<(), Fail> {
-    for (header, byte, count, line, why) in BIG {
-        let bad = fault_of_big(rt.alloc(), header, *byte, *count)?;
-        assert!(rt; bad == Some((*line, *why)));
+fn a_header_lists_up_to_64_ids(rt: HostRuntime) -> Result<(), Fail> {
+    for (nodes, voters, wanted) in LONG_HEADERS {
+        let has_fault = has_header_fault(rt.alloc(), *nodes, *voters, *wanted)?;
+        assert!(rt; has_fault, "{nodes} and {voters}");
     }
     Ok(())
 }
 
-// The fault of a third line with so many bytes.
-fn fault_of_long(alloc: Global, bytes: usize) -> Option<(usize, WhyBad)> {
-    let mut text = many(alloc, bytes, b"x")?;
-    text.push(b'\n').ok()?;
-    fault(alloc, Level::Core, text.as_slice())
+// Whether the schedule that a text spells is printed as that text.
+fn prints_itself(alloc: Global, level: Level, text: &[u8]) -> Result<bool, AllocError> {
+    let Ok(schedule) = read_schedule(alloc, text, level) else {
+        return Ok(false);
+    };
+    let printed = write_schedule(alloc, &schedule)?;
+    Ok(printed.as_bytes() == text)
 }
 
-const LONG_LINES: &[(usize, WhyBad)] = &[(16384, WhyBad::Verb), (16385, WhyBad::TooLong)];
+const PRINTED: &[(&str, Level, &[u8])] = &[
+    (
+        "prints_what_it_has_read",
+        Level::Core,
+        b"nodes a,b\ninitial a\nboot a\nstartjoin a b 18446744073709551615\nvalue b 0 x-1 _\nvalue b 7 x a,b\ndeliver a 4294967295\n",
+    ),
+    (
+        "prints_each_stop_that_it_has_read",
+        Level::Core,
+        b"nodes a,b\ninitial a\ncrash b none\ncrash b all\ncrash b torn:09\nrestart b\nfuse a 1 torn:af\nfuse a 4294967295 none\nfail b 10\n",
+    ),
+    (
+        "prints_what_it_has_read_at_level_node",
+        Level::Node,
+        b"nodes a,b\n\
+          initial a\n\
+          tick a 0 0\n\
+          tick b 4611686018427387904 18446744073709551615\n\
+          client a \n\
+          client b  get  x \n\
+          client a \xff\x00\x80\n\
+          deliver a 1\n\
+          crash a torn:09\n\
+          restart a\n\
+          fuse b 1 all\n\
+          fail b 10\n",
+    ),
+    (
+        "prints_the_voting_only_nodes_that_it_has_read",
+        Level::Node,
+        b"nodes v\ninitial v\nvoting-only v\n",
+    ),
+    (
+        "prints_the_voting_only_nodes_that_it_has_read",
+        Level::Node,
+        b"nodes a,b,v,w\ninitial a,b,v\nvoting-only b,v\ntick a 0 0\n",
+    ),
+];
 
 #[test]
-fn names_a_line_that_is_too_long(rt: HostRuntime) {
-    for (bytes, why) in LONG_LINES {
-        assert!(rt;
-            fault_of_long(rt.alloc(), *bytes) == Some((3, *why)),
-            "at {bytes}"
-        );
+fn prints_each_schedule_as_it_was_read(rt: HostRuntime) -> Result<(), Fail> {
+    for (name, level, text) in PRINTED {
+        let prints_itself = prints_itself(rt.alloc(), *level, text)?;
+        assert!(rt; prints_itself, "{name}");
     }
+    Ok(())
+}
+
+// Writes what a line of a client holds, to which byte a crash tears, or of a value its version, the length of its text and the number of its nodes.
+fn write_shown(text: &mut Text, line: &Line) -> Result<(), AllocError> {
+    match line {
+        Line::Client(_, bytes) => {
+            text.word("client ")?;
+            text.bytes(bytes.as_slice())
+        }
+        Line::Crash(_, Way::Torn(byte)) => {
+            text.word("torn ")?;
+            text.number(u64::from(*byte))
+        }
+        Line::Value(_, version, setting, config) => {
+            text.word("value ")?;
+            text.number_and(*version, b' ')?;
+            text.number_and(setting.get().as_str().len() as u64, b' ')?;
+            text.number(config.lend().len() as u64)
+        }
+        _ => text.word("another"),
+    }
+}
+
+// Whether the lines of a text show that.
+fn shows(alloc: Global, level: Level, text: &[u8], wanted: &str) -> Result<bool, AllocError> {
+    let mut shown = Text::new(alloc);
+    if let Ok(schedule) = read_schedule(alloc, text, level) {
+        for line in schedule.lines.as_slice() {
+            write_shown(&mut shown, line)?;
+        }
+    }
+    Ok(shown.as_bytes() == wanted.as_bytes())
+}
+
+// Texts of one line each, and what it shows.
+const SHOWN: &[(&str, Level, &[u8], &str)] = &[
+    (
+        "shows_a_clients_line_with_its_spaces",
+        Level::Node,
+        b"nodes a\ninitial a\nclient a put x  1 \n",
+        "client put x  1 ",
+    ),
+    (
+        "shows_a_clients_line_with_its_spaces",
+        Level::Node,
+        b"nodes a\ninitial a\nclient a \n",
+        "client ",
+    ),
+    (
+        "shows_a_torn_byte",
+        Level::Core,
+        b"nodes a,b\ninitial a\ncrash b torn:a7\n",
+        "torn 167",
+    ),
+    (
+        "shows_a_value",
+        Level::Core,
+        b"nodes a,b\ninitial a\nvalue b 7 x-1 a,b\n",
+        "value 7 3 2",
+    ),
+];
+
+#[test]
+fn shows_what_a_line_holds(rt: HostRuntime) -> Result<(), Fail> {
+    for (name, level, text, wanted) in SHOWN {
+        let shows = shows(rt.alloc(), *level, text, wanted)?;
+        assert!(rt; shows, "{name}");
+    }
+    Ok(())
+}
+
+// Whether a fault is written into a text that was cleared.
+fn has_cleared_for_fault(alloc: Global) -> Result<bool, AllocError> {
+    let mut text = Text::new(alloc);
+    text.word("act ")?;
+    let has_begun = text.len() == 4;
+    text.clear();
+    let bad = BadSchedule {
+        line: 3,
+        why: WhyBad::Id,
+    };
+    write_bad_schedule(&mut text, &bad)?;
+    Ok(has_begun && text.as_bytes() == b"zen: bad schedule at line 3: Id\n".as_slice())
+}
+
+#[test]
+fn prints_a_fault(rt: HostRuntime) -> Result<(), Fail> {
+    let prints = has_cleared_for_fault(rt.alloc())?;
+    assert!(rt; prints);
+    Ok(())
+}
+
+// What a text begins with, a part of it and how many times that stands there, its end, and its fault.
+type Long = (&'static [u8], &'static [u8], usize, &'static [u8], Fault);
+
+fn have_faults(rt: &impl Abort, alloc: Global, rows: &[Long]) -> Result<(), Fail> {
+    for (head, part, count, end, wanted) in rows {
+        let text = (*head, *part, *count, *end);
+        let has_fault = has_fault_with(alloc, CORE, text, *wanted)?;
+        assert!(rt; has_fault, "at {count}");
+    }
+    Ok(())
+}
+
+const MILLION: &[Long] = &[
+    (HEADER, b"deliver a 1\n", 999_998, b"", None),
+    (
+        HEADER,
+        b"deliver a 1\n",
+        999_998,
+        b"x",
+        Some((1_000_001, WhyBad::TooMany)),
+    ),
+];
+
+#[test]
+fn takes_a_million_lines(rt: HostRuntime) -> Result<(), Fail> {
+    have_faults(&rt, rt.alloc(), MILLION)
+}
+
+// Texts of 16,777,217 bytes. Where the first line is bad, that comes first.
+const BIG: &[Long] = &[
+    (
+        HEADER,
+        b"xxxxxxxxxxxxxxxx",
+        1_048_574,
+        b"xxxxxxxxxxxxxxx",
+        Some((3, WhyBad::TooBig)),
+    ),
+    (
+        b"",
+        b"\n\n\n\n\n\n\n\n\n\n\n\n\n\n\n\n",
+        1_048_576,
+        b"\n",
+        Some((1, WhyBad::Header)),
+    ),
+];
+
+#[test]
+fn names_a_text_that_is_too_big(rt: HostRuntime) -> Result<(), Fail> {
+    have_faults(&rt, rt.alloc(), BIG)
+}
+
+const LONG_LINES: &[Long] = &[
+    (HEADER, b"x", 16384, b"\n", Some((3, WhyBad::Verb))),
+    (HEADER, b"x", 16385, b"\n", Some((3, WhyBad::TooLong))),
+];
+
+#[test]
+fn names_a_line_that_is_too_long(rt: HostRuntime) -> Result<(), Fail> {
+    have_faults(&rt, rt.alloc(), LONG_LINES)
 }

@@ -1,7 +1,6 @@
 //! Parts of small pictures. The marks are those of docs/charts.md.
 use sequence_chart::draw_trace;
 use std::alloc::Global;
-use std::test::Fail;
 
 const ELECTION: &str = "> boot a\n\
     act a ok boot a,b\n\
@@ -22,24 +21,21 @@ fn has(text: &[u8], wanted: &str) -> bool {
     false
 }
 
-// Whether this stands somewhere in the picture of a trace.
-fn shows(alloc: Global, trace: &str, part: &str) -> bool {
-    match draw_trace(alloc, trace.as_bytes()) {
-        Ok(picture) => has(picture.as_bytes(), part),
-        Err(_) => false,
-    }
+// Where something stands in a picture.
+#[derive(Clone, Copy)]
+enum Place {
+    Somewhere,
+    End,
 }
 
-const DRAWN: &[&str] = &[
-    "<path class='arrow' marker-end='url(#head)' d='M324 72L186 82'><title>m1 b-&gt;a join 1 0/0</title></path>",
-    "<title>act a ok join b a 1 0/0</title>ok join b a 1 0/0</text>",
-    "<use href='#star' class='won t1'",
-];
-
-#[test]
-fn an_election_is_drawn(rt: HostRuntime) {
-    for part in DRAWN {
-        assert!(rt; shows(rt.alloc(), ELECTION, part), "{part}");
+// Whether this stands there in the picture of a trace.
+fn shows(alloc: Global, trace: &str, part: &str, place: Place) -> bool {
+    match draw_trace(alloc, trace.as_bytes()) {
+        Ok(picture) => match place {
+            Place::Somewhere => has(picture.as_bytes(), part),
+            Place::End => picture.as_bytes().ends_with(part.as_bytes()),
+        },
+        Err(_) => false,
     }
 }
 
@@ -61,41 +57,79 @@ const STOPS: &str = "> boot a\n\
 const REFUSED: &str = "> startjoin a a 1\n\
     act a refused:TermNotGreater(1,1) startjoin a 1\n";
 
-// The last row has a line whose characters `<`, `>` and `&` are escaped.
-const ALSO_DRAWN: &[(&str, &str)] = &[
+// A trace, and what stands in its picture. Of the messages the last row has a line whose characters `<`, `>` and `&` are escaped.
+const DRAWN: &[(&str, &str, &str, Place)] = &[
     (
+        "an_election_is_drawn",
+        ELECTION,
+        "<path class='arrow' marker-end='url(#head)' d='M324 72L186 82'><title>m1 b-&gt;a join 1 0/0</title></path>",
+        Place::Somewhere,
+    ),
+    (
+        "an_election_is_drawn",
+        ELECTION,
+        "<title>act a ok join b a 1 0/0</title>ok join b a 1 0/0</text>",
+        Place::Somewhere,
+    ),
+    (
+        "an_election_is_drawn",
+        ELECTION,
+        "<use href='#star' class='won t1'",
+        Place::Somewhere,
+    ),
+    (
+        "messages_stops_and_refusals_are_drawn",
         TWO_MESSAGES,
         "<title>m1 b-&gt;a join 1 0/0</title></path><use href='#end' class='end'",
+        Place::Somewhere,
     ),
     (
+        "messages_stops_and_refusals_are_drawn",
         TWO_MESSAGES,
         "'><title>m2 c-&gt;a join 1 0/0</title></path>\n",
+        Place::Somewhere,
     ),
-    (STOPS, "<path class='plain' d='M98 40V54'/>"),
-    (STOPS, "<path class='plain' d='M98 68V82'/>"),
-    (STOPS, "<use href='#square' class='fault'"),
-    (REFUSED, "<use href='#cross' class='refused'"),
     (
+        "messages_stops_and_refusals_are_drawn",
+        STOPS,
+        "<path class='plain' d='M98 40V54'/>",
+        Place::Somewhere,
+    ),
+    (
+        "messages_stops_and_refusals_are_drawn",
+        STOPS,
+        "<path class='plain' d='M98 68V82'/>",
+        Place::Somewhere,
+    ),
+    (
+        "messages_stops_and_refusals_are_drawn",
+        STOPS,
+        "<use href='#square' class='fault'",
+        Place::Somewhere,
+    ),
+    (
+        "messages_stops_and_refusals_are_drawn",
+        REFUSED,
+        "<use href='#cross' class='refused'",
+        Place::Somewhere,
+    ),
+    (
+        "messages_stops_and_refusals_are_drawn",
         "> client a <x>&\n",
         "<title>&gt; client a &lt;x&gt;&amp;</title>",
+        Place::Somewhere,
+    ),
+    (
+        "a_picture_ends_once",
+        ELECTION,
+        "</text>\n</svg>\n",
+        Place::End,
     ),
 ];
 
 #[test]
-fn messages_stops_and_refusals_are_drawn(rt: HostRuntime) {
-    for (trace, part) in ALSO_DRAWN {
-        assert!(rt; shows(rt.alloc(), trace, part), "{part}");
+fn pictures_have_their_marks(rt: HostRuntime) {
+    for (name, trace, part, place) in DRAWN {
+        assert!(rt; shows(rt.alloc(), trace, part, *place), "{name}: {part}");
     }
-}
-
-fn ends_with(alloc: Global, trace: &str, end: &str) -> bool {
-    match draw_trace(alloc, trace.as_bytes()) {
-        Ok(picture) => picture.as_bytes().ends_with(end.as_bytes()),
-        Err(_) => false,
-    }
-}
-
-#[test]
-fn a_picture_ends_once(rt: HostRuntime) {
-    assert!(rt; ends_with(rt.alloc(), ELECTION, "</text>\n</svg>\n"));
 }

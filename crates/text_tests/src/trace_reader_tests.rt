@@ -1,9 +1,9 @@
 //! Traces that are read, and texts that are refused. The reasons are those of docs/formats.md.
-use schedule_text::{ReadError, WhyBad};
-use std::alloc::Global;
+use schedule_text::ReadError;
+use std::alloc::{AllocError, Global};
 use std::test::Fail;
 use text::Text;
-use trace_reader::{BadTrace, Ending, Said, Trace, TraceLine, read_trace, write_bad_trace};
+use trace_reader::{Ending, Said, TraceLine, read_trace, write_bad_trace};
 
 const ELECTION: &str = "> boot a\n\
     act a ok boot a\n\
@@ -14,13 +14,6 @@ const ELECTION: &str = "> boot a\n\
     act a ok join a a 1 0/0\n\
     won a 1\n";
 
-fn lines_read(alloc: Global, text: &str) -> Result<Trace, Fail> {
-    match read_trace(alloc, text.as_bytes()) {
-        Ok(trace) => Ok(trace),
-        Err(_) => Err("it was not read".into()),
-    }
-}
-
 // Whether the lines of the election are told as what they are.
 fn are_told(lines: &[TraceLine]) -> bool {
     lines.len() == 8
@@ -30,101 +23,180 @@ fn are_told(lines: &[TraceLine]) -> bool {
         && matches!(&lines[7].said, Said::Won(_, 1))
 }
 
+fn election_is_read(alloc: Global) -> bool {
+    match read_trace(alloc, ELECTION.as_bytes()) {
+        Ok(trace) => are_told(trace.as_slice()),
+        Err(_) => false,
+    }
+}
+
 #[test]
-fn an_election_is_read(rt: HostRuntime) -> Result<(), Fail> {
-    let trace = lines_read(rt.alloc(), ELECTION)?;
-    assert!(rt; are_told(trace.as_slice()));
-    Ok(())
+fn an_election_is_read(rt: HostRuntime) {
+    assert!(rt; election_is_read(rt.alloc()));
 }
 
 // How the act of a second line ended.
-fn ending_of(alloc: Global, text: &str) -> Result<Option<Ending>, Fail> {
-    let trace = lines_read(alloc, text)?;
-    let Some(line) = trace.as_slice().get(1) else {
-        return Ok(None);
-    };
+fn second_ending(lines: &[TraceLine]) -> Option<Ending> {
+    let line = lines.get(1)?;
     match &line.said {
-        Said::Act(_, ending) => Ok(Some(*ending)),
-        _ => Ok(None),
+        Said::Act(_, ending) => Some(*ending),
+        _ => None,
     }
 }
 
-const ENDINGS: &[(&str, Ending)] = &[
-    ("> boot a\nact a ok boot a\n", Ending::Taken),
+// Whether a text is so many lines, of which the second one is an act that ended so, or none.
+fn is_read(alloc: Global, text: &str, count: usize, ending: Option<Ending>) -> bool {
+    match read_trace(alloc, text.as_bytes()) {
+        Ok(trace) => {
+            trace.as_slice().len() == count && second_ending(trace.as_slice()) == ending
+        }
+        Err(_) => false,
+    }
+}
+
+const READ: &[(&str, &str, usize, Option<Ending>)] = &[
     (
-        "> boot a\nact a refused:AlreadySet boot a\n",
-        Ending::Refused,
+        "each_ending_is_read",
+        "> boot a\nact a ok boot a\n",
+        2,
+        Some(Ending::Taken),
     ),
-    ("> boot a\nact a stopped boot a\n", Ending::Stopped),
-    ("> boot a\nact a disk boot a\n", Ending::Disk),
-    ("> boot a\nact a crashed boot a\n", Ending::Crashed),
-];
-
-#[test]
-fn each_ending_is_read(rt: HostRuntime) -> Result<(), Fail> {
-    for (text, ending) in ENDINGS {
-        assert!(rt; ending_of(rt.alloc(), text)? == Some(*ending), "{text}");
-    }
-    Ok(())
-}
-
-#[test]
-fn lines_of_whole_nodes_are_read(rt: HostRuntime) -> Result<(), Fail> {
-    let trace = lines_read(
-        rt.alloc(),
+    (
+        "each_ending_is_read",
+        "> boot a\nact a refused:AlreadySet boot a\n",
+        2,
+        Some(Ending::Refused),
+    ),
+    (
+        "each_ending_is_read",
+        "> boot a\nact a stopped boot a\n",
+        2,
+        Some(Ending::Stopped),
+    ),
+    (
+        "each_ending_is_read",
+        "> boot a\nact a disk boot a\n",
+        2,
+        Some(Ending::Disk),
+    ),
+    (
+        "each_ending_is_read",
+        "> boot a\nact a crashed boot a\n",
+        2,
+        Some(Ending::Crashed),
+    ),
+    (
+        "lines_of_whole_nodes_are_read",
         "> tick a 5 7\nmode a follower b 2\ndrop a b lag\nm1 a->* commit 1/1\nreply a {\"id\":1,\"not_master\":\"b\"}\n\
         > client a \n> crash a torn:a5\ncrashed a\n> restart a\nrecord a 1 0/0 a,b _\n> deliver a 9\nunsent\n",
-    )?;
-    assert!(rt; trace.as_slice().len() == 12);
-    Ok(())
-}
-
-fn fault_of(alloc: Global, text: &str) -> Option<BadTrace> {
-    match read_trace(alloc, text.as_bytes()) {
-        Ok(_) => None,
-        Err(ReadError::Memory) => None,
-        Err(ReadError::Bad(bad)) => Some(bad),
-    }
-}
-
-fn is_bad(alloc: Global, text: &str, line: usize, why: WhyBad) -> bool {
-    match fault_of(alloc, text) {
-        Some(bad) => bad.line == line && bad.why == why,
-        None => false,
-    }
-}
-
-// Texts that are no trace: which line is the first bad one, and why.
-const BAD: &[(&str, usize, WhyBad)] = &[
-    ("act a ok boot a\n", 1, WhyBad::Header),
-    ("> boot a", 1, WhyBad::NoNewline),
-    ("> boot a\n\n", 2, WhyBad::Verb),
-    ("> boot a b\n", 1, WhyBad::Arity),
-    ("> boat a\n", 1, WhyBad::Verb),
-    ("> deliver a 0\n", 1, WhyBad::Number),
-    ("> boot A\n", 1, WhyBad::Id),
-    ("> boot a\nact a maybe boot a\n", 2, WhyBad::Verb),
-    ("> boot a\nact a ok\n", 2, WhyBad::Arity),
-    ("> boot a\nact a ok open a\n", 2, WhyBad::Verb),
-    ("> boot a\nm2 a->a join 1 0/0\n", 2, WhyBad::Number),
-    ("> boot a\nm1 a=>a join 1 0/0\n", 2, WhyBad::Id),
-    ("> boot a\nwon a 01\n", 2, WhyBad::Number),
-    ("> boot a\nunsent a\n", 2, WhyBad::Arity),
+        12,
+        None,
+    ),
 ];
 
 #[test]
-fn bad_lines_are_named(rt: HostRuntime) -> Result<(), Fail> {
-    for (text, line, why) in BAD {
-        assert!(rt; is_bad(rt.alloc(), text, *line, *why), "{text}");
+fn lines_are_read(rt: HostRuntime) {
+    for (name, text, count, ending) in READ {
+        assert!(rt;
+            is_read(rt.alloc(), text, *count, *ending),
+            "{name}: {text}"
+        );
     }
-    Ok(())
 }
 
+// Whether a text is no trace, and this is written of its first bad line.
+fn is_bad(alloc: Global, text: &str, wanted: &str) -> Result<bool, AllocError> {
+    let mut written = Text::new(alloc);
+    if let Err(ReadError::Bad(bad)) = read_trace(alloc, text.as_bytes()) {
+        write_bad_trace(&mut written, &bad)?;
+    }
+    Ok(written.as_bytes() == wanted.as_bytes())
+}
+
+// Texts that are no trace, and what is written of their first bad line.
+const BAD: &[(&str, &str, &str)] = &[
+    (
+        "bad_lines_are_named",
+        "act a ok boot a\n",
+        "zen_chart: bad trace at line 1: Header\n",
+    ),
+    (
+        "bad_lines_are_named",
+        "> boot a",
+        "zen_chart: bad trace at line 1: NoNewline\n",
+    ),
+    (
+        "bad_lines_are_named",
+        "> boot a\n\n",
+        "zen_chart: bad trace at line 2: Verb\n",
+    ),
+    (
+        "bad_lines_are_named",
+        "> boot a b\n",
+        "zen_chart: bad trace at line 1: Arity\n",
+    ),
+    (
+        "bad_lines_are_named",
+        "> boat a\n",
+        "zen_chart: bad trace at line 1: Verb\n",
+    ),
+    (
+        "bad_lines_are_named",
+        "> deliver a 0\n",
+        "zen_chart: bad trace at line 1: Number\n",
+    ),
+    (
+        "bad_lines_are_named",
+        "> boot A\n",
+        "zen_chart: bad trace at line 1: Id\n",
+    ),
+    (
+        "bad_lines_are_named",
+        "> boot a\nact a maybe boot a\n",
+        "zen_chart: bad trace at line 2: Verb\n",
+    ),
+    (
+        "bad_lines_are_named",
+        "> boot a\nact a ok\n",
+        "zen_chart: bad trace at line 2: Arity\n",
+    ),
+    (
+        "bad_lines_are_named",
+        "> boot a\nact a ok open a\n",
+        "zen_chart: bad trace at line 2: Verb\n",
+    ),
+    (
+        "bad_lines_are_named",
+        "> boot a\nm2 a->a join 1 0/0\n",
+        "zen_chart: bad trace at line 2: Number\n",
+    ),
+    (
+        "bad_lines_are_named",
+        "> boot a\nm1 a=>a join 1 0/0\n",
+        "zen_chart: bad trace at line 2: Id\n",
+    ),
+    (
+        "bad_lines_are_named",
+        "> boot a\nwon a 01\n",
+        "zen_chart: bad trace at line 2: Number\n",
+    ),
+    (
+        "bad_lines_are_named",
+        "> boot a\nunsent a\n",
+        "zen_chart: bad trace at line 2: Arity\n",
+    ),
+    (
+        "a_fault_is_written",
+        "> boot a\nboot a\n",
+        "zen_chart: bad trace at line 2: Verb\n",
+    ),
+];
+
 #[test]
-fn a_fault_is_written(rt: HostRuntime) -> Result<(), Fail> {
-    let bad = fault_of(rt.alloc(), "> boot a\nboot a\n").ok_or("it is read")?;
-    let mut text = Text::new(rt.alloc());
-    write_bad_trace(&mut text, &bad)?;
-    assert!(rt; text.as_bytes() == "zen_chart: bad trace at line 2: Verb\n".as_bytes());
+fn bad_texts_are_refused(rt: HostRuntime) -> Result<(), Fail> {
+    for (name, text, wanted) in BAD {
+        let is_bad = is_bad(rt.alloc(), text, wanted)?;
+        assert!(rt; is_bad, "{name}: {text}");
+    }
     Ok(())
 }

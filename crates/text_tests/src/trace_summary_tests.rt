@@ -51,35 +51,42 @@ const NOTHING: &str = "steps=0\n\
     trace_bytes=0\n\
     trace_sha256=e3b0c44298fc1c149afbf4c8996fb92427ae41e4649b934ca495991b7852b855\n";
 
-// The summary of a trace that comes in these pieces.
-fn summed(alloc: Global, pieces: &[&str]) -> Result<Text, AllocError> {
-    let mut tally = Tally::new();
-    for piece in pieces {
-        tally.add(piece.as_bytes())?;
+// Adds a trace, in pieces where it has this line: what stands before it, the line, and what stands after it, with an empty piece at
+// both ends.
+fn add(tally: &mut Tally, trace: &str, line: &str) -> Result<(), AllocError> {
+    match trace.split_once(line) {
+        Some((before, after)) => {
+            for piece in ["", before, line, after, ""] {
+                tally.add(piece.as_bytes())?;
+            }
+            Ok(())
+        }
+        None => tally.add(trace.as_bytes()),
     }
+}
+
+fn is_summed_up(alloc: Global, trace: &str, line: &str, wanted: &str) -> Result<bool, AllocError> {
+    let mut tally = Tally::new();
+    add(&mut tally, trace, line)?;
     let mut text = Text::new(alloc);
     write_summary(alloc, &mut text, &tally.finish())?;
-    Ok(text)
+    Ok(text.as_bytes() == wanted.as_bytes())
 }
 
-#[test]
-fn lines_are_counted_by_their_kinds(rt: HostRuntime) -> Result<(), Fail> {
-    let text = summed(rt.alloc(), &[TRACE])?;
-    assert!(rt; text.as_bytes() == SUMMARY.as_bytes());
-    Ok(())
-}
+const WHOLE: &str = "no line of a trace";
+
+// A trace, the line at which it is cut into pieces, and its summary.
+const SUMMARIES: &[(&str, &str, &str, &str)] = &[
+    ("lines_are_counted_by_their_kinds", TRACE, WHOLE, SUMMARY),
+    ("pieces_come_to_the_same", TRACE, "> deliver a 1\n", SUMMARY),
+    ("nothing_comes_to_nothing", "", WHOLE, NOTHING),
+];
 
 #[test]
-fn pieces_come_to_the_same(rt: HostRuntime) -> Result<(), Fail> {
-    let (before, rest) = TRACE.split_once("> deliver a 1\n").ok_or("no such line")?;
-    let text = summed(rt.alloc(), &["", before, "> deliver a 1\n", rest, ""])?;
-    assert!(rt; text.as_bytes() == SUMMARY.as_bytes());
-    Ok(())
-}
-
-#[test]
-fn nothing_comes_to_nothing(rt: HostRuntime) -> Result<(), Fail> {
-    let text = summed(rt.alloc(), &[])?;
-    assert!(rt; text.as_bytes() == NOTHING.as_bytes());
+fn traces_have_these_summaries(rt: HostRuntime) -> Result<(), Fail> {
+    for (name, trace, line, wanted) in SUMMARIES {
+        let is_summed_up = is_summed_up(rt.alloc(), trace, line, wanted)?;
+        assert!(rt; is_summed_up, "{name}");
+    }
     Ok(())
 }

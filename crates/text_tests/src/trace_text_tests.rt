@@ -1,5 +1,6 @@
 //! Acts, messages and causes with their texts. Their forms are those of docs/formats.md.
 use crate::begun_text::{begun, goes_on};
+use crate::names::{id, ids};
 use cluster_state::{
     ApplyCommit, ClusterState, ClusterValue, CommitCause, InitialCause, Join, JoinCause, Kept,
     PublishCause, PublishRequest, PublishResponse, ResponseCause, SharedState, StartCause,
@@ -16,14 +17,6 @@ use trace_text::{
 };
 use voting_config::{IdList, NodeId, NodeSet, VotingConfig};
 use world_model::Cause;
-
-fn a() -> NodeId {
-    NodeId::parse("a").unwrap_or(NodeId::default())
-}
-
-fn b() -> NodeId {
-    NodeId::parse("b").unwrap_or(NodeId::default())
-}
 
 fn is_cause(alloc: Global, cause: Cause, wanted: &str) -> Result<bool, AllocError> {
     let mut text = begun(alloc)?;
@@ -69,7 +62,7 @@ fn cause(why: Why, own: u64, other: u64) -> Cause {
         Why::EmptyConfig => Cause::Initial(InitialCause::EmptyConfig),
         Why::TermNotGreater => Cause::Start(StartCause::TermNotGreater(own, other)),
         Why::TermTooLarge => Cause::Start(StartCause::TermTooLarge(other)),
-        Why::NotForMe => Cause::Join(JoinCause::NotForMe(a())),
+        Why::NotForMe => Cause::Join(JoinCause::NotForMe(id("a"))),
         Why::JoinTerm => Cause::Join(JoinCause::TermMismatch(own, other)),
         Why::NotStarted => Cause::Join(JoinCause::NotStarted),
         Why::FresherTerm => Cause::Join(JoinCause::FresherTerm(own, other)),
@@ -83,7 +76,7 @@ fn cause(why: Why, own: u64, other: u64) -> Cause {
         Why::NoJoinQuorum => Cause::Value(ValueCause::NoJoinQuorum),
         Why::PublishTerm => Cause::Publish(PublishCause::TermMismatch(own, other)),
         Why::NoNewerState => Cause::Publish(PublishCause::VersionNotGreater(own, other)),
-        Why::ResponseNotForMe => Cause::Response(ResponseCause::NotForMe(b())),
+        Why::ResponseNotForMe => Cause::Response(ResponseCause::NotForMe(id("b"))),
         Why::ResponseNotWon => Cause::Response(ResponseCause::NotWon),
         Why::ResponseTerm => Cause::Response(ResponseCause::TermMismatch(own, other)),
         Why::ResponseVersion => Cause::Response(ResponseCause::VersionMismatch(own, other)),
@@ -127,114 +120,34 @@ const CAUSES: &[(Why, u64, u64, &str)] = &[
 #[test]
 fn causes_have_their_values(rt: HostRuntime) -> Result<(), Fail> {
     for (why, own, other, wanted) in CAUSES {
-        assert!(rt;
-            is_cause(rt.alloc(), cause(*why, *own, *other), wanted)?,
-            "{wanted}"
-        );
+        let is_cause = is_cause(rt.alloc(), cause(*why, *own, *other), wanted)?;
+        assert!(rt; is_cause, "{wanted}");
     }
     Ok(())
 }
 
 fn join() -> Join {
     Join {
-        source: a(),
-        target: a(),
+        source: id("a"),
+        target: id("a"),
         term: 2,
         last_term: 0,
         last_version: 3,
     }
 }
 
-// What an election writes.
-#[derive(Clone, Copy)]
-enum Election {
-    Head(Ending),
-    Boot,
-    StartJoin,
-    Join,
-    JoinMessage,
-    Won(bool),
-}
-
-fn write_election(text: &mut Text, part: Election) -> Result<(), AllocError> {
-    match part {
-        Election::Head(ending) => write_act_head(text, a(), ending),
-        Election::Boot => write_boot(text, &[]),
-        Election::StartJoin => write_start_join(text, a(), 1),
-        Election::Join => write_join(text, &join()),
-        Election::JoinMessage => write_join_message(text, 7, &join()),
-        Election::Won(won) => write_won(text, won, a(), 2),
-    }
-}
-
-fn is_election(alloc: Global, part: Election, wanted: &str) -> Result<bool, AllocError> {
-    let mut text = begun(alloc)?;
-    write_election(&mut text, part)?;
-    goes_on(alloc, &text, wanted)
-}
-
-const NOT_GREATER: Cause = Cause::Start(StartCause::TermNotGreater(2, 1));
-
-const ELECTIONS: [(Election, &str); 11] = [
-    (Election::Head(Ending::Taken), "act a ok "),
-    (
-        Election::Head(Ending::Refused(NOT_GREATER)),
-        "act a refused:TermNotGreater(2,1) ",
-    ),
-    (Election::Head(Ending::Stopped), "act a stopped "),
-    (Election::Head(Ending::Disk), "act a disk "),
-    (Election::Head(Ending::Crashed), "act a crashed "),
-    (Election::Boot, "boot _"),
-    (Election::StartJoin, "startjoin a 1"),
-    (Election::Join, "join a a 2 0/3"),
-    (Election::Won(true), "won a 2\n"),
-    (Election::Won(false), ""),
-    (Election::JoinMessage, "m7 a->a join 2 0/3\n"),
-];
-
-#[test]
-fn lines_of_elections(rt: HostRuntime) -> Result<(), Fail> {
-    for (part, wanted) in &ELECTIONS {
-        assert!(rt; is_election(rt.alloc(), *part, wanted)?, "{wanted}");
-    }
-    Ok(())
-}
-
-// To whom a response goes.
-#[derive(Clone, Copy)]
-enum To {
-    A,
-    B,
-}
-
-fn target(to: To) -> NodeId {
-    match to {
-        To::A => a(),
-        To::B => b(),
-    }
-}
-
-// What a publication writes, a response with its target.
-#[derive(Clone, Copy)]
-enum Publication {
-    Value,
-    Publish,
-    Response(To),
-    Commit,
-    Committed,
-    PublishMessage,
-    ResponseMessage(To),
-    CommitMessage,
-}
-
 fn initial(alloc: Global) -> Result<ClusterState, AllocError> {
     ClusterState::initial(alloc, &NodeSet::new())
 }
 
-fn response(to: To) -> PublishResponse {
+fn initial_shared(alloc: Global) -> Result<SharedState, AllocError> {
+    SharedState::of(alloc, initial(alloc)?)
+}
+
+fn response(target: NodeId) -> PublishResponse {
     PublishResponse {
-        source: a(),
-        target: target(to),
+        source: id("a"),
+        target,
         term: 1,
         version: 2,
     }
@@ -242,7 +155,7 @@ fn response(to: To) -> PublishResponse {
 
 fn commit() -> ApplyCommit {
     ApplyCommit {
-        source: a(),
+        source: id("a"),
         term: 1,
         version: 2,
     }
@@ -255,8 +168,8 @@ fn write_config_and_value(text: &mut Text, alloc: Global) -> Result<(), AllocErr
 
 fn write_request(text: &mut Text, alloc: Global) -> Result<(), AllocError> {
     let request = PublishRequest {
-        source: a(),
-        state: SharedState::of(alloc, initial(alloc)?)?,
+        source: id("a"),
+        state: initial_shared(alloc)?,
     };
     write_publish(text, alloc, &request)
 }
@@ -264,86 +177,12 @@ fn write_request(text: &mut Text, alloc: Global) -> Result<(), AllocError> {
 fn write_request_message(text: &mut Text, alloc: Global) -> Result<(), AllocError> {
     let state = initial(alloc)?;
     let json = to_json(alloc, &state)?;
-    write_publish_message(text, 1, &a(), &state, json.as_slice())
-}
-
-fn write_publication(text: &mut Text, alloc: Global, part: Publication) -> Result<(), AllocError> {
-    match part {
-        Publication::Value => write_config_and_value(text, alloc),
-        Publication::Publish => write_request(text, alloc),
-        Publication::Response(to) => write_response(text, &response(to)),
-        Publication::Commit => write_commit(text, &commit()),
-        Publication::Committed => write_committed(
-            text,
-            alloc,
-            &SharedState::of(alloc, initial(alloc)?)?,
-        ),
-        Publication::PublishMessage => write_request_message(text, alloc),
-        Publication::ResponseMessage(to) => write_response_message(text, 2, &response(to)),
-        Publication::CommitMessage => write_commit_message(text, 3, &commit()),
-    }
-}
-
-fn is_publication(alloc: Global, part: Publication, wanted: &str) -> Result<bool, AllocError> {
-    let mut text = begun(alloc)?;
-    write_publication(&mut text, alloc, part)?;
-    goes_on(alloc, &text, wanted)
-}
-
-const PUBLICATIONS: &[(Publication, &str)] = &[
-    (
-        Publication::Value,
-        "value 5 _ {\"exclusions\":[],\"master\":null,\"members\":[],\"settings\":{}}",
-    ),
-    (
-        Publication::Publish,
-        "publish a {\"committed\":[],\"config\":[],\"parent\":null,\"term\":0,\"value\":{\"exclusions\":[],\"master\":null,\"members\":[],\"settings\":{}},\"version\":0}",
-    ),
-    (Publication::Response(To::A), "response a a 1/2"),
-    (Publication::Response(To::B), "response a b 1/2"),
-    (Publication::Commit, "commit a 1/2"),
-    (
-        Publication::Committed,
-        "committed {\"committed\":[],\"config\":[],\"parent\":null,\"term\":0,\"value\":{\"exclusions\":[],\"master\":null,\"members\":[],\"settings\":{}},\"version\":0}\n",
-    ),
-    (
-        Publication::PublishMessage,
-        "m1 a->* publish {\"committed\":[],\"config\":[],\"parent\":null,\"term\":0,\"value\":{\"exclusions\":[],\"master\":null,\"members\":[],\"settings\":{}},\"version\":0}\n",
-    ),
-    (
-        Publication::ResponseMessage(To::A),
-        "m2 a->a response 1/2\n",
-    ),
-    (
-        Publication::ResponseMessage(To::B),
-        "m2 a->b response 1/2\n",
-    ),
-    (Publication::CommitMessage, "m3 a->* commit 1/2\n"),
-];
-
-#[test]
-fn lines_of_publications(rt: HostRuntime) -> Result<(), Fail> {
-    for (part, wanted) in PUBLICATIONS {
-        assert!(rt; is_publication(rt.alloc(), *part, wanted)?, "{wanted}");
-    }
-    Ok(())
-}
-
-// What is written as a node stops, and as it starts again.
-#[derive(Clone, Copy)]
-enum Stop {
-    Crashed,
-    Down,
-    Disk,
-    Record,
-    Up,
+    write_publish_message(text, 1, &id("a"), &state, json.as_slice())
 }
 
 // The state 2/5 of one voter is accepted, that of none committed.
 fn write_found(text: &mut Text, alloc: Global) -> Result<(), AllocError> {
-    let mut voters = NodeSet::new();
-    let _ = voters.insert(a());
-    let mut accepted = ClusterState::initial(alloc, &voters)?;
+    let mut accepted = ClusterState::initial(alloc, &ids(&["a"]))?;
     accepted.term = 2;
     accepted.version = 5;
     let found = Kept {
@@ -351,37 +190,140 @@ fn write_found(text: &mut Text, alloc: Global) -> Result<(), AllocError> {
         accepted: SharedState::of(alloc, accepted)?,
         committed: VotingConfig::of(&NodeSet::new()),
     };
-    write_record(text, a(), &found)
+    write_record(text, id("a"), &found)
 }
 
-fn write_stop(text: &mut Text, alloc: Global, stop: Stop) -> Result<(), AllocError> {
-    match stop {
-        Stop::Crashed => write_crashed(text, a()),
-        Stop::Down => write_down_line(text, a()),
-        Stop::Disk => write_disk(text, a()),
-        Stop::Record => write_found(text, alloc),
-        Stop::Up => write_up_line(text, a()),
+// A part of a trace: what an election writes, what a publication writes, and what is written as a node stops and starts again.
+#[derive(Clone, Copy)]
+enum Part {
+    HeadTaken,
+    HeadRefused,
+    HeadStopped,
+    HeadDisk,
+    HeadCrashed,
+    Boot,
+    StartJoin,
+    Join,
+    Won,
+    NotWon,
+    JoinMessage,
+    Value,
+    Publish,
+    ResponseToA,
+    ResponseToB,
+    Commit,
+    Committed,
+    PublishMessage,
+    MessageToA,
+    MessageToB,
+    CommitMessage,
+    Crashed,
+    Down,
+    Disk,
+    Record,
+    Up,
+}
+
+const NOT_GREATER: Cause = Cause::Start(StartCause::TermNotGreater(2, 1));
+
+fn write_part(text: &mut Text, alloc: Global, part: Part) -> Result<(), AllocError> {
+    let a = id("a");
+    match part {
+        Part::HeadTaken => write_act_head(text, a, Ending::Taken),
+        Part::HeadRefused => write_act_head(text, a, Ending::Refused(NOT_GREATER)),
+        Part::HeadStopped => write_act_head(text, a, Ending::Stopped),
+        Part::HeadDisk => write_act_head(text, a, Ending::Disk),
+        Part::HeadCrashed => write_act_head(text, a, Ending::Crashed),
+        Part::Boot => write_boot(text, &[]),
+        Part::StartJoin => write_start_join(text, a, 1),
+        Part::Join => write_join(text, &join()),
+        Part::Won => write_won(text, true, a, 2),
+        Part::NotWon => write_won(text, false, a, 2),
+        Part::JoinMessage => write_join_message(text, 7, &join()),
+        Part::Value => write_config_and_value(text, alloc),
+        Part::Publish => write_request(text, alloc),
+        Part::ResponseToA => write_response(text, &response(a)),
+        Part::ResponseToB => write_response(text, &response(id("b"))),
+        Part::Commit => write_commit(text, &commit()),
+        Part::Committed => write_committed(text, alloc, &initial_shared(alloc)?),
+        Part::PublishMessage => write_request_message(text, alloc),
+        Part::MessageToA => write_response_message(text, 2, &response(a)),
+        Part::MessageToB => write_response_message(text, 2, &response(id("b"))),
+        Part::CommitMessage => write_commit_message(text, 3, &commit()),
+        Part::Crashed => write_crashed(text, a),
+        Part::Down => write_down_line(text, a),
+        Part::Disk => write_disk(text, a),
+        Part::Record => write_found(text, alloc),
+        Part::Up => write_up_line(text, a),
     }
 }
 
-fn is_stop(alloc: Global, stop: Stop, wanted: &str) -> Result<bool, AllocError> {
+fn is_part(alloc: Global, part: Part, wanted: &str) -> Result<bool, AllocError> {
     let mut text = begun(alloc)?;
-    write_stop(&mut text, alloc, stop)?;
+    write_part(&mut text, alloc, part)?;
     goes_on(alloc, &text, wanted)
 }
 
-const STOPS: &[(Stop, &str)] = &[
-    (Stop::Crashed, "crashed a\n"),
-    (Stop::Down, "down a\n"),
-    (Stop::Disk, "disk a\n"),
-    (Stop::Record, "record a 3 2/5 a _\n"),
-    (Stop::Up, "up a\n"),
+const ELECTIONS: &[(Part, &str)] = &[
+    (Part::HeadTaken, "act a ok "),
+    (Part::HeadRefused, "act a refused:TermNotGreater(2,1) "),
+    (Part::HeadStopped, "act a stopped "),
+    (Part::HeadDisk, "act a disk "),
+    (Part::HeadCrashed, "act a crashed "),
+    (Part::Boot, "boot _"),
+    (Part::StartJoin, "startjoin a 1"),
+    (Part::Join, "join a a 2 0/3"),
+    (Part::Won, "won a 2\n"),
+    (Part::NotWon, ""),
+    (Part::JoinMessage, "m7 a->a join 2 0/3\n"),
+];
+
+const PUBLICATIONS: &[(Part, &str)] = &[
+    (
+        Part::Value,
+        "value 5 _ {\"exclusions\":[],\"master\":null,\"members\":[],\"settings\":{}}",
+    ),
+    (
+        Part::Publish,
+        "publish a {\"committed\":[],\"config\":[],\"parent\":null,\"term\":0,\"value\":{\"exclusions\":[],\"master\":null,\"members\":[],\"settings\":{}},\"version\":0}",
+    ),
+    (Part::ResponseToA, "response a a 1/2"),
+    (Part::ResponseToB, "response a b 1/2"),
+    (Part::Commit, "commit a 1/2"),
+    (
+        Part::Committed,
+        "committed {\"committed\":[],\"config\":[],\"parent\":null,\"term\":0,\"value\":{\"exclusions\":[],\"master\":null,\"members\":[],\"settings\":{}},\"version\":0}\n",
+    ),
+    (
+        Part::PublishMessage,
+        "m1 a->* publish {\"committed\":[],\"config\":[],\"parent\":null,\"term\":0,\"value\":{\"exclusions\":[],\"master\":null,\"members\":[],\"settings\":{}},\"version\":0}\n",
+    ),
+    (Part::MessageToA, "m2 a->a response 1/2\n"),
+    (Part::MessageToB, "m2 a->b response 1/2\n"),
+    (Part::CommitMessage, "m3 a->* commit 1/2\n"),
+];
+
+const STOPS: &[(Part, &str)] = &[
+    (Part::Crashed, "crashed a\n"),
+    (Part::Down, "down a\n"),
+    (Part::Disk, "disk a\n"),
+    (Part::Record, "record a 3 2/5 a _\n"),
+    (Part::Up, "up a\n"),
+];
+
+const PARTS: &[(&str, &[(Part, &str)])] = &[
+    ("lines_of_elections", ELECTIONS),
+    ("lines_of_publications", PUBLICATIONS),
+    ("lines_of_stops", STOPS),
 ];
 
 #[test]
-fn lines_of_stops(rt: HostRuntime) -> Result<(), Fail> {
-    for (stop, wanted) in STOPS {
-        assert!(rt; is_stop(rt.alloc(), *stop, wanted)?, "{wanted}");
+fn parts_have_their_lines(rt: HostRuntime) -> Result<(), Fail> {
+    for (name, rows) in PARTS {
+        for (part, wanted) in *rows {
+            let is_part = is_part(rt.alloc(), *part, wanted)?;
+            assert!(rt; is_part, "{name}: {wanted}");
+        }
     }
     Ok(())
 }
