@@ -1,20 +1,20 @@
 //! Recorded traces and the verdicts on them. Each verdict follows from the one thing that was changed in a legal trace.
 use schedule_text::ReadError;
 use std::alloc::{AllocError, Global};
-use std::process::Abort;
 use std::test::Fail;
 use text::Text;
 use trace_audit::{audit, write_bad_trace, write_verdict};
 
-// The line of the verdict, or that of the first bad line.
-fn verdict(alloc: Global, trace: &str) -> Result<Text, Fail> {
+// Whether a trace of these parts has this verdict, or this first bad line.
+fn is_judged(alloc: Global, parts: &[&str], line: &str) -> Result<bool, AllocError> {
+    let trace = parts.join(alloc, "")?;
     let mut text = Text::new(alloc);
     match audit(alloc, trace.as_bytes()) {
         Ok(verdict) => write_verdict(&mut text, &verdict)?,
         Err(ReadError::Bad(bad)) => write_bad_trace(&mut text, &bad)?,
-        Err(ReadError::Memory) => return Err("memory".into()),
+        Err(ReadError::Memory) => return Err(AllocError),
     }
-    Ok(text)
+    Ok(text.as_bytes() == line.as_bytes())
 }
 
 /// Three nodes begin, and a is the master of term 1: 21 lines.
@@ -207,46 +207,25 @@ const CLAUSES: &[(&str, &str)] = &[
 ];
 
 // Whether this is the verdict on a trace.
-fn is_judged(alloc: Global, trace: &str, line: &str) -> Result<bool, Fail> {
-    let verdict = verdict(alloc, trace)?;
-    Ok(verdict.as_bytes() == line.as_bytes())
-}
-
-fn judges_all(rt: &impl Abort, alloc: Global, rows: &[(&str, &str)]) -> Result<(), Fail> {
-    for (trace, line) in rows {
-        let is_judged = is_judged(alloc, trace, line)?;
-        assert!(rt; is_judged, "{trace}");
-    }
-    Ok(())
-}
-
 const ELECTIONS: &[(&str, &str)] = &[
     (ELECTION, "legal=8\nwinners=1\ncommitted=0\nwon a 1\n"),
     (UNSENT, "zen: line 20: Unsent\n"),
 ];
 
-#[test]
-fn an_election_is_legal(rt: HostRuntime) -> Result<(), Fail> {
-    judges_all(&rt, rt.alloc(), ELECTIONS)
-}
+// What the traces begin with, and what stands after it with the verdict.
+const JUDGED: &[(&str, &str, &[(&str, &str)])] = &[
+    ("an_election_is_legal", "", ELECTIONS),
+    ("bad_texts_are_refused_by_their_first_bad_line", "", BAD),
+    ("the_first_clause_that_breaks_is_named", ELECTION, CLAUSES),
+];
 
 #[test]
-fn bad_texts_are_refused_by_their_first_bad_line(rt: HostRuntime) -> Result<(), Fail> {
-    judges_all(&rt, rt.alloc(), BAD)
-}
-
-// Whether this is the verdict on the election and what stands after it.
-fn is_judged_after(alloc: Global, more: &str, line: &str) -> Result<bool, Fail> {
-    let mut text = String::from_str(alloc, ELECTION)?;
-    text.push_str(more)?;
-    is_judged(alloc, text.as_str(), line)
-}
-
-#[test]
-fn the_first_clause_that_breaks_is_named(rt: HostRuntime) -> Result<(), Fail> {
-    for (more, line) in CLAUSES {
-        let is_judged = is_judged_after(rt.alloc(), more, line)?;
-        assert!(rt; is_judged, "{more}");
+fn traces_have_these_verdicts(rt: HostRuntime) -> Result<(), Fail> {
+    for (name, head, rows) in JUDGED {
+        for (more, line) in *rows {
+            let is_judged = is_judged(rt.alloc(), &[*head, *more], line)?;
+            assert!(rt; is_judged, "{name}: {more}");
+        }
     }
     Ok(())
 }
@@ -271,40 +250,24 @@ const STATES: &[(&str, &str)] = &[
     ),
 ];
 
-// A publication, up to each place where its state stands.
-const PUBLICATION: &[&str] = &[
-    "> value a 1 x a,b,c\n\
+// What stands before the state that is published, and before it where it is accepted a second time.
+const PUBLISHED: &str = "> value a 1 x a,b,c\n\
     act a ok value 1 a,b,c {\"exclusions\":[],\"master\":null,\"members\":[],\"settings\":{\"v\":\"x\"}}\n\
     m4 a->* publish\n\
-    > deliver a 4\nact a ok publish a ",
-    "\nm5 a->a response 1/1\n> deliver b 4\nact b ok publish a ",
-];
+    > deliver a 4\nact a ok publish a ";
+
+const ACCEPTED: &str = "\nm5 a->a response 1/1\n> deliver b 4\nact b ok publish a ";
 
 const COMMIT: &str = "\nm6 b->a response 1/1\n\
     > deliver a 5\nact a ok response a a 1/1\n\
     > deliver a 6\nact a ok response b a 1/1\ncommitted x\nm7 a->* commit 1/1\n\
     > deliver c 7\nact c refused:AcceptedTermMismatch(0,1) commit a 1/1\n";
 
-// A publication after the election, and all that comes of it.
-fn published(alloc: Global, state: &str) -> Result<String, AllocError> {
-    let mut text = String::new(alloc);
-    for part in PUBLICATION {
-        text.push_str(part)?;
-        text.push_str(state)?;
-    }
-    text.push_str(COMMIT)?;
-    Ok(text)
-}
-
-fn is_taken(alloc: Global, state: &str, line: &str) -> Result<bool, Fail> {
-    let more = published(alloc, state)?;
-    is_judged_after(alloc, more.as_str(), line)
-}
-
 #[test]
 fn a_state_that_is_taken_is_the_one_that_was_published(rt: HostRuntime) -> Result<(), Fail> {
     for (state, line) in STATES {
-        let is_taken = is_taken(rt.alloc(), state, line)?;
+        let parts = [ELECTION, PUBLISHED, *state, ACCEPTED, *state, COMMIT];
+        let is_taken = is_judged(rt.alloc(), &parts, line)?;
         assert!(rt; is_taken, "{state}");
     }
     Ok(())

@@ -15,8 +15,8 @@ use passages::{A_WINS_OF_THREE, Passage, THREE, THREE_BOOT, THREE_JOIN};
 use rows::{
     RULES, SAFE_COMMITS, SAFE_JOINS, SAFE_PUBLICATIONS, SAFE_VALUES, STOPS, Traced, WHOLE_NODES,
 };
-use runs::{Case, REPLAY, UNREAD, Written, ends, replay_of, replays, written_by};
-use schedule_text::{Level, Schedule, read_schedule, write_schedule};
+use runs::{Case, Ending, NO_READ, Rest, Written, all_end, ends, replay_of, replays, written_by};
+use schedule_text::{Level, read_schedule, write_schedule};
 use sha2::{Digest, Sha256};
 use std::alloc::{AllocError, Global};
 use std::process::Abort;
@@ -128,21 +128,23 @@ fn write_put(text: &mut Text, number: u64) -> Result<(), AllocError> {
     text.word("\",\"value\":\"v\"}}\n")
 }
 
-// A node that has elected itself is handed so many puts of different keys, while it publishes the first of them.
-fn puts(alloc: Global, count: u64) -> Result<Text, AllocError> {
-    let mut text = Text::new(alloc);
-    text.word(LEADER)?;
+// Whether a node that has elected itself, and is handed so many puts of different keys while it publishes the first of them, ends so.
+fn puts_end(alloc: Global, count: u64, end: &[u8]) -> Result<bool, AllocError> {
+    let mut schedule = Text::new(alloc);
+    schedule.word(LEADER)?;
     for number in 1..=count {
-        write_put(&mut text, number)?;
+        write_put(&mut schedule, number)?;
     }
-    Ok(text)
+    replays(alloc, Level::Node, schedule.as_bytes(), Written::Ends(end))
 }
 
 #[test]
 fn a_leader_holds_64_requests_and_refuses_the_next_one(rt: HostRuntime) -> Result<(), Fail> {
-    let schedule = puts(rt.alloc(), 65)?;
-    let last = Written::Ends(b"\"v\"}}\nreply a {\"id\":65,\"queue_full\":64}\n");
-    let refuses = replays(rt.alloc(), Level::Node, schedule.as_bytes(), last)?;
+    let refuses = puts_end(
+        rt.alloc(),
+        65,
+        b"\"v\"}}\nreply a {\"id\":65,\"queue_full\":64}\n",
+    )?;
     assert!(rt; refuses);
     Ok(())
 }
@@ -208,12 +210,15 @@ const THREE_ACTS: &str = "boot a\nboot b\nboot c\n\
     deliver a 5\ndeliver a 6\ndeliver c 7\n\
     crash a all\nrestart a\nrestart a\n";
 
-fn struck_schedule(alloc: Global, line: &str, call: u64, end: &str) -> Result<Text, AllocError> {
-    let mut text = Text::new(alloc);
+fn write_struck(
+    text: &mut Text,
+    line: &str,
+    call: u64,
+    end_of_line: &str,
+) -> Result<(), AllocError> {
     text.word("nodes a,b,c\ninitial a,b,c\n")?;
-    write_strike(&mut text, line, call, end)?;
-    text.word(THREE_ACTS)?;
-    Ok(text)
+    write_strike(text, line, call, end_of_line)?;
+    text.word(THREE_ACTS)
 }
 
 // What the stop shows, and the two openings. The first one makes three calls on the side in use, 13 to 15, and four on the
@@ -231,7 +236,7 @@ fn shown_after(strike: Strike, call: u64) -> (&'static str, &'static str, &'stat
     }
 }
 
-fn struck_end(alloc: Global, strike: Strike, call: u64) -> Result<Text, AllocError> {
+fn write_struck_end(text: &mut Text, strike: Strike, call: u64) -> Result<(), AllocError> {
     let (stop, first, second) = shown_after(strike, call);
     let lines = [
         "> crash a all\n",
@@ -241,11 +246,10 @@ fn struck_end(alloc: Global, strike: Strike, call: u64) -> Result<Text, AllocErr
         "> restart a\n",
         second,
     ];
-    let mut text = Text::new(alloc);
     for line in lines {
         text.word(line)?;
     }
-    Ok(text)
+    Ok(())
 }
 
 // Whether what is left of node a's acts is found again, where this call is struck.
@@ -256,8 +260,10 @@ fn is_found_again(
     line: &str,
     end_of_line: &str,
 ) -> Result<bool, AllocError> {
-    let schedule = struck_schedule(alloc, line, call, end_of_line)?;
-    let end = struck_end(alloc, strike, call)?;
+    let mut schedule = Text::new(alloc);
+    let mut end = Text::new(alloc);
+    write_struck(&mut schedule, line, call, end_of_line)?;
+    write_struck_end(&mut end, strike, call)?;
     let written = Written::Ends(end.as_bytes());
     replays(alloc, Level::Core, schedule.as_bytes(), written)
 }
@@ -287,24 +293,21 @@ fn write_terms(text: &mut Text, first: u64, last: u64) -> Result<(), AllocError>
 }
 
 // Each term up to this one, in which a call is struck, and a stop and an opening.
-fn struck_terms(
-    alloc: Global,
+fn write_struck_terms(
+    text: &mut Text,
     term: u64,
     call: u64,
     line: &str,
     end_of_line: &str,
-) -> Result<Text, AllocError> {
-    let mut text = Text::new(alloc);
+) -> Result<(), AllocError> {
     text.word("nodes a\ninitial a\n")?;
-    write_terms(&mut text, 1, term.saturating_sub(1))?;
-    write_strike(&mut text, line, call, end_of_line)?;
-    write_terms(&mut text, term, term)?;
-    text.word("crash a all\nrestart a\n")?;
-    Ok(text)
+    write_terms(text, 1, term.saturating_sub(1))?;
+    write_strike(text, line, call, end_of_line)?;
+    write_terms(text, term, term)?;
+    text.word("crash a all\nrestart a\n")
 }
 
-fn found_term(alloc: Global, strike: Strike, term: u64) -> Result<Text, AllocError> {
-    let mut text = Text::new(alloc);
+fn write_found_term(text: &mut Text, strike: Strike, term: u64) -> Result<(), AllocError> {
     text.word("> crash a all\n")?;
     text.word(match strike {
         Strike::Fail => "crashed a\n",
@@ -312,8 +315,7 @@ fn found_term(alloc: Global, strike: Strike, term: u64) -> Result<Text, AllocErr
     })?;
     text.word("> restart a\nrecord a ")?;
     text.number(term)?;
-    text.word(" 0/0 _ _\n")?;
-    Ok(text)
+    text.word(" 0/0 _ _\n")
 }
 
 // Whether the last term, or the one before it, is found where this call of the renewal is struck.
@@ -324,9 +326,12 @@ fn is_renewed_or_not(
     (call, calls): (u64, u64),
     (line, end_of_line): (&str, &str),
 ) -> Result<bool, AllocError> {
-    let schedule = struck_terms(alloc, term, call, line, end_of_line)?;
     let is_kept = is_kept(strike, calls.saturating_sub(call).saturating_add(1));
-    let end = found_term(alloc, strike, term.saturating_sub(u64::from(!is_kept)))?;
+    let found = term.saturating_sub(u64::from(!is_kept));
+    let mut schedule = Text::new(alloc);
+    let mut end = Text::new(alloc);
+    write_struck_terms(&mut schedule, term, call, line, end_of_line)?;
+    write_found_term(&mut end, strike, found)?;
     let written = Written::Ends(end.as_bytes());
     replays(alloc, Level::Core, schedule.as_bytes(), written)
 }
@@ -504,70 +509,71 @@ fn a_schedule_of_1_000_000_lines_is_replayed(rt: HostRuntime) -> Result<(), Fail
     Ok(())
 }
 
-// Whether these words, which read no input, end so and write this.
-fn ends_unread(
-    alloc: Global,
-    words: &'static [&'static str],
-    status: Status,
-    text: &[u8],
-    asked: usize,
-) -> Result<bool, AllocError> {
-    let case = Case { words, ..UNREAD };
-    ends(alloc, &case, status, Written::Whole(text), asked)
-}
+const USAGE: &[u8] = b"zen: usage\n";
 
-const OTHERS: &[&[&str]] = &[
-    &["replay", "--level", "none"],
-    &["replay", "--level", "node", "core"],
-    &["replay", "--level"],
-    &["replay", "--level", "core", "core"],
-    &["replay", "--level", "core", "--level=core"],
-    &["replay", "--level", "core", "--level", "core"],
-    &["inspect"],
-    &["inspect", "--dir", "a", "--"],
-    &[],
+const OTHERS: &[Ending] = &[
+    (b"", &["replay", "--level", "none"], Status::Usage, USAGE, 0),
+    (
+        b"",
+        &["replay", "--level", "node", "core"],
+        Status::Usage,
+        USAGE,
+        0,
+    ),
+    (b"", &["replay", "--level"], Status::Usage, USAGE, 0),
+    (
+        b"",
+        &["replay", "--level", "core", "core"],
+        Status::Usage,
+        USAGE,
+        0,
+    ),
+    (
+        b"",
+        &["replay", "--level", "core", "--level=core"],
+        Status::Usage,
+        USAGE,
+        0,
+    ),
+    (
+        b"",
+        &["replay", "--level", "core", "--level", "core"],
+        Status::Usage,
+        USAGE,
+        0,
+    ),
+    (b"", &["inspect"], Status::Usage, USAGE, 0),
+    (
+        b"",
+        &["inspect", "--dir", "a", "--"],
+        Status::Usage,
+        USAGE,
+        0,
+    ),
+    (b"", &[], Status::Usage, USAGE, 0),
 ];
 
 #[test]
 fn other_words_are_a_usage_and_nothing_is_read_or_opened(rt: HostRuntime) -> Result<(), Fail> {
-    for (place, words) in OTHERS.iter().enumerate() {
-        let is_refused = ends_unread(rt.alloc(), words, Status::Usage, b"zen: usage\n", 0)?;
-        assert!(rt; is_refused, "row {place}");
-    }
-    Ok(())
+    all_end(&rt, rt.alloc(), NO_READ, Rest::Nothing, OTHERS)
 }
 
-// Words, what is written first, and how many calls of the host are made.
-const IN_ONE_WORD: &[(&[&str], &[u8], usize)] = &[
+const BOOTS: &[u8] = b"nodes a\ninitial a\nboot a\n";
+
+const IN_ONE_WORD: &[Ending] = &[
     (
+        BOOTS,
         &["replay", "--level=core"],
+        Status::Ok,
         b"> boot a\nact a ok boot a\n",
         0,
     ),
-    (&["inspect", "--dir=a"], b"term=0\n", 1),
+    (b"", &["inspect", "--dir=a"], Status::Ok, b"term=0\n", 1),
 ];
-
-fn begins(
-    alloc: Global,
-    words: &'static [&'static str],
-    text: &[u8],
-    asked: usize,
-) -> Result<bool, AllocError> {
-    let case = Case {
-        words,
-        input: b"nodes a\ninitial a\nboot a\n",
-        ..REPLAY
-    };
-    ends(alloc, &case, Status::Ok, Written::Begins(text), asked)
-}
 
 #[test]
 fn an_option_may_stand_in_one_word_with_its_value(rt: HostRuntime) -> Result<(), Fail> {
-    for (words, text, asked) in IN_ONE_WORD {
-        let begins = begins(rt.alloc(), words, text, *asked)?;
-        assert!(rt; begins, "{asked}");
-    }
-    Ok(())
+    all_end(&rt, rt.alloc(), &[], Rest::MoreIfOk, IN_ONE_WORD)
 }
 
 // Three nodes elect a master.
@@ -582,14 +588,10 @@ const FAULTS: &[Fault] = &[
     ("the third write", &[], &[3], Status::WriteFault),
 ];
 
-// Whether a fault ends the replay of a schedule so. Nothing is written before the input is read whole.
-fn ends_by(
-    alloc: Global,
-    schedule: &Text,
-    trace: &Text,
-    fault: &Fault,
-) -> Result<bool, AllocError> {
+// Whether a fault ends the replay of the election so. Nothing is written before the input is read whole.
+fn ends_by(alloc: Global, fault: &Fault) -> Result<bool, AllocError> {
     let (_, reads, writes, status) = *fault;
+    let (schedule, trace) = texts(alloc, THREE, ELECTION)?;
     let case = Case {
         reads,
         writes,
@@ -604,10 +606,9 @@ fn ends_by(
 
 #[test]
 fn a_fault_of_the_input_or_output_ends_the_run(rt: HostRuntime) -> Result<(), Fail> {
-    let (schedule, trace) = texts(rt.alloc(), THREE, ELECTION)?;
     for fault in FAULTS {
         let (name, _, _, _) = fault;
-        let ends = ends_by(rt.alloc(), &schedule, &trace, fault)?;
+        let ends = ends_by(rt.alloc(), fault)?;
         assert!(rt; ends, "{name}");
     }
     Ok(())
@@ -625,28 +626,31 @@ const ONE_STEP: &[u8] =
     b"steps=1\nacts=1\nrefused=0\nwon=0\ncommitted=0\ncrashes=0\ntrace_bytes=29\n\
     trace_sha256=953ecb5095088a0930770443c28f7a3877848062db4c310ae9d0ad3752fe72e2\n";
 
-// Words that read no input, the status, what is written, and how many calls of the host are made. The first node of the trial can't be
-// started.
-const DRAWN_OR_TRIED: &[(&[&str], Status, &[u8], usize)] = &[
+// The first node of the trial can't be started.
+const DRAWN_OR_TRIED: &[Ending] = &[
     (
+        b"",
         &["generate", "--number", "7", "--steps", "0"],
         Status::Ok,
         NO_STEP,
         0,
     ),
     (
+        b"",
         &["generate", "--number", "7", "--steps", "1"],
         Status::Ok,
         ONE_STEP,
         0,
     ),
     (
+        b"",
         &["generate", "--number", "7", "--steps", "3"],
         Status::Ok,
         THREE_STEPS,
         0,
     ),
     (
+        b"",
         &[
             "trial",
             "--program",
@@ -666,11 +670,7 @@ const DRAWN_OR_TRIED: &[(&[&str], Status, &[u8], usize)] = &[
 
 #[test]
 fn a_schedule_is_drawn_and_a_trial_asks_for_its_nodes(rt: HostRuntime) -> Result<(), Fail> {
-    for (place, (words, status, text, asked)) in DRAWN_OR_TRIED.iter().enumerate() {
-        let ends = ends_unread(rt.alloc(), words, *status, text, *asked)?;
-        assert!(rt; ends, "row {place}");
-    }
-    Ok(())
+    all_end(&rt, rt.alloc(), NO_READ, Rest::Nothing, DRAWN_OR_TRIED)
 }
 
 const CODES: &[(Status, u8)] = &[
@@ -709,9 +709,13 @@ const DRAWN: &[(u64, usize, &[u8])] = &[
     (2_349, 16_249, b"\xdb\x77\xb4\xc2\x00\xcd\xcd\xb3"),
 ];
 
-// Whether the schedule is 200 lines that are read as they were written.
-fn is_drawn(alloc: Global, schedule: &Schedule, text: &Text) -> Result<bool, AllocError> {
-    Ok(schedule.lines.as_slice().len() == 200 && is_read_as_written(alloc, text)?)
+// Whether the text is a schedule of 200 lines that is printed as it was read.
+fn is_read_as_written(alloc: Global, text: &[u8]) -> Result<bool, AllocError> {
+    let Ok(read) = read_schedule(alloc, text, Level::Core) else {
+        return Ok(false);
+    };
+    let again = write_schedule(alloc, &read)?;
+    Ok(read.lines.as_slice().len() == 200 && again.as_bytes() == text)
 }
 
 // Whether a replay of this schedule writes a trace of this length, whose digest begins so.
@@ -721,8 +725,7 @@ fn replays_as_listed(
     length: usize,
     digest: &[u8],
 ) -> Result<bool, AllocError> {
-    let case = replay_of(Level::Core, schedule);
-    let (status, sink) = written_by(alloc, &case)?;
+    let (status, sink) = written_by(alloc, &replay_of(Level::Core, schedule))?;
     let trace = sink.as_bytes();
     Ok(
         status == Status::Ok
@@ -731,20 +734,14 @@ fn replays_as_listed(
     )
 }
 
-fn is_read_as_written(alloc: Global, text: &Text) -> Result<bool, AllocError> {
-    let Ok(read) = read_schedule(alloc, text.as_bytes(), Level::Core) else {
-        return Ok(false);
-    };
-    let again = write_schedule(alloc, &read)?;
-    Ok(again.as_bytes() == text.as_bytes())
-}
-
 // Whether the schedule of this seed is drawn, written and replayed as it should be.
 fn is_replayed(alloc: Global, seed: u64, length: usize, digest: &[u8]) -> Result<bool, AllocError> {
-    let drawn = random::schedule(alloc, seed)?;
-    let text = write_schedule(alloc, &drawn)?;
-    let is_drawn = is_drawn(alloc, &drawn, &text)?;
-    Ok(is_drawn && replays_as_listed(alloc, text.as_bytes(), length, digest)?)
+    let mut text = Text::new(alloc);
+    random::write_schedule(&mut text, seed)?;
+    Ok(
+        is_read_as_written(alloc, text.as_bytes())?
+            && replays_as_listed(alloc, text.as_bytes(), length, digest)?,
+    )
 }
 
 #[test]

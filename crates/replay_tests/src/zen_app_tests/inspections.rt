@@ -1,6 +1,6 @@
 //! Runs of `inspect` over disks in memory: what is shown of a journal, and how an inspection ends without one. The lines are
 //! those of docs/formats.md.
-use super::runs::{Call, Case, Fault, INSPECT, Written, all_end_by, ends, host_after};
+use super::runs::{Call, Case, Fault, INSPECT, Run, Written, all_end_by, ends, run_of};
 use std::alloc::{AllocError, Global};
 use std::test::Fail;
 use zen_app::Status;
@@ -113,18 +113,18 @@ fn is_new(disk: &mut MemDisks, side: Side) -> bool {
     disk.len(side) == Ok(9) && disk.read(side, 0, &mut bytes).is_ok() && bytes == *b"ZENJRNL1\0"
 }
 
-// Whether the disk is there, and both its sides are such journals.
-fn are_new(disk: Option<MemDisks>) -> bool {
-    match disk {
-        Some(mut disk) => is_new(&mut disk, Side::Zero) && is_new(&mut disk, Side::One),
-        None => false,
+// Whether an inspection of an empty folder gives its disk back, and both sides of it are such journals.
+fn are_new(alloc: Global) -> Result<bool, AllocError> {
+    let Run { host, .. } = run_of(alloc, &INSPECT)?;
+    match host.into_disk_back() {
+        Some(mut disk) => Ok(is_new(&mut disk, Side::Zero) && is_new(&mut disk, Side::One)),
+        None => Ok(false),
     }
 }
 
 #[test]
 fn an_empty_folder_gets_an_empty_journal(rt: HostRuntime) -> Result<(), Fail> {
-    let disk = host_after(rt.alloc(), &INSPECT)?.into_disk_back();
-    let are_new = are_new(disk);
+    let are_new = are_new(rt.alloc())?;
     assert!(rt; are_new);
     Ok(())
 }

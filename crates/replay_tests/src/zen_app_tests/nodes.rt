@@ -1,5 +1,7 @@
 //! Runs of `node` over links and disks in memory. The lines are those of docs/formats.md.
-use super::runs::{Call, Case, Fault, UNREAD, Written, all_end_by, ends, host_after};
+use super::runs::{
+    Call, Case, Ending, Fault, NO_READ, Rest, Run, UNREAD, all_end, all_end_by, run_of,
+};
 use std::alloc::{AllocError, Global};
 use std::test::Fail;
 use zen_app::Status;
@@ -37,20 +39,11 @@ const FOUR_TURNS: &[&str] = &[
     "4",
 ];
 
-// The words, the first file of the journal, the status, what is written, and how many calls of the host are made.
-type End = (
-    &'static [&'static str],
-    &'static [u8],
-    Status,
-    &'static [u8],
-    usize,
-);
-
-const ENDS: &[End] = &[
+const ENDS: &[Ending] = &[
     // it takes its turns
     (
-        THREE_TURNS,
         b"",
+        THREE_TURNS,
         Status::Turns,
         b"record a 0 0/0 _ _\n> start\n> tick 1 0\nact a ok boot a\n> tick 2 0\n\
           m1 a->a startjoin a 1\n> tick 3 0\nzen: turns\n",
@@ -58,39 +51,25 @@ const ENDS: &[End] = &[
     ),
     // the link says stop
     (
-        FOUR_TURNS,
         b"",
+        FOUR_TURNS,
         Status::Ok,
         b"record a 0 0/0 _ _\n> start\n> tick 1 0\nact a ok boot a\n> tick 2 0\n\
           m1 a->a startjoin a 1\n> tick 3 0\n",
         2,
     ),
     (
-        THREE_TURNS,
         b"ABCDEFGHIJ",
+        THREE_TURNS,
         Status::NotAJournal,
         b"zen: not a journal: Header\n",
         1,
     ),
 ];
 
-fn meets(alloc: Global, end: &End) -> Result<bool, AllocError> {
-    let (words, file, status, text, asked) = *end;
-    let case = Case {
-        words,
-        file,
-        ..UNREAD
-    };
-    ends(alloc, &case, status, Written::Whole(text), asked)
-}
-
 #[test]
 fn a_node_ends_with_what_it_has_met(rt: HostRuntime) -> Result<(), Fail> {
-    for (place, end) in ENDS.iter().enumerate() {
-        let meets = meets(rt.alloc(), end)?;
-        assert!(rt; meets, "row {place}");
-    }
-    Ok(())
+    all_end(&rt, rt.alloc(), NO_READ, Rest::Nothing, ENDS)
 }
 
 // There is no folder, and the disk fails as it is opened.
@@ -132,14 +111,20 @@ fn a_node_ends_at_a_fault(rt: HostRuntime) -> Result<(), Fail> {
     all_end_by(&rt, rt.alloc(), THREE_TURNS, FAULTS, 2)
 }
 
-#[test]
-fn a_node_gives_its_disk_and_its_link_back(rt: HostRuntime) -> Result<(), Fail> {
+// Whether a run of a node gives back both its disk and its link.
+fn gives_both_back(alloc: Global) -> Result<bool, AllocError> {
     let case = Case {
         words: THREE_TURNS,
         ..UNREAD
     };
-    let (disk, link) = host_after(rt.alloc(), &case)?.into_given_back();
-    let both = disk.is_some() && link.is_some();
+    let Run { host, .. } = run_of(alloc, &case)?;
+    let (disk, link) = host.into_given_back();
+    Ok(disk.is_some() && link.is_some())
+}
+
+#[test]
+fn a_node_gives_its_disk_and_its_link_back(rt: HostRuntime) -> Result<(), Fail> {
+    let both = gives_both_back(rt.alloc())?;
     assert!(rt; both);
     Ok(())
 }

@@ -1,28 +1,22 @@
 //! Schedules that are drawn at random.
 use rand_core::utils::NextWord;
 use rand_pcg::Pcg32;
-use schedule_text::{Line, Lines, MAX_ORDINAL, Schedule, SettingText};
-use std::alloc::{AllocError, Global};
-use text::Boxed;
-use voting_config::{IdList, NodeId, NodeSet};
-use zen_disk::Way;
+use schedule_text::MAX_ORDINAL;
+use std::alloc::AllocError;
+use text::Text;
 
-const NAMES: &[&str] = &["a", "b-2", "0", "node-of-thirty-two-bytes-0123456", "z9"];
+// In the order of a list.
+const NODES: [&str; 5] = ["0", "a", "b-2", "node-of-thirty-two-bytes-0123456", "z9"];
 
 const TEXTS: [&str; 3] = ["x", "a-value", "0123456789abcdefghijklmnopqrstuv"];
 
-fn listed() -> NodeSet {
-    let mut nodes = NodeSet::new();
-    for name in NAMES {
-        if let Ok(id) = NodeId::parse(name) {
-            let _ = nodes.insert(id);
-        }
-    }
-    nodes
-}
+const DIGITS: [u8; 16] = *b"0123456789abcdef";
 
-fn node(draws: &mut Pcg32, nodes: &NodeSet) -> Option<NodeId> {
-    nodes.get((draws.next_word() % 5) as usize)
+// Which of the nodes are in a list.
+type Listed = [bool; 5];
+
+fn node(draws: &mut Pcg32) -> &'static str {
+    NODES[(draws.next_word() % 5) as usize]
 }
 
 // Small numbers are drawn most, since terms and versions that meet show most.
@@ -43,103 +37,127 @@ fn ordinal(draws: &mut Pcg32, place: u32) -> u64 {
 }
 
 // One node or more.
-fn some_nodes(draws: &mut Pcg32, nodes: &NodeSet) -> NodeSet {
-    let mut some = NodeSet::new();
-    if let Some(id) = node(draws, nodes) {
-        let _ = some.insert(id);
-    }
-    for id in nodes.as_slice() {
+fn some_nodes(draws: &mut Pcg32) -> Listed {
+    let mut some = [false; 5];
+    some[(draws.next_word() % 5) as usize] = true;
+    for place in 0..5 {
         if draws.next_word() % 2 == 0 {
-            let _ = some.insert(*id);
+            some[place] = true;
         }
     }
     some
 }
 
-fn way(draws: &mut Pcg32) -> Way {
+fn write_words(text: &mut Text, words: &[&str]) -> Result<(), AllocError> {
+    for word in words {
+        text.word(word)?;
+    }
+    Ok(())
+}
+
+fn write_list(text: &mut Text, listed: Listed) -> Result<(), AllocError> {
+    let mut before = "";
+    for place in 0..5 {
+        if listed[place] {
+            write_words(text, &[before, NODES[place]])?;
+            before = ",";
+        }
+    }
+    Ok(())
+}
+
+fn write_torn(text: &mut Text, byte: u32) -> Result<(), AllocError> {
+    text.word("torn:")?;
+    text.byte(DIGITS[(byte / 16 % 16) as usize])?;
+    text.byte(DIGITS[(byte % 16) as usize])
+}
+
+fn write_way(text: &mut Text, draws: &mut Pcg32) -> Result<(), AllocError> {
     match draws.next_word() % 4 {
-        0 => Way::Lost,
-        1 => Way::Kept,
-        2 => Way::Torn(1),
-        _ => Way::Torn((draws.next_word() % 256) as u8),
+        0 => text.word("none"),
+        1 => text.word("all"),
+        2 => write_torn(text, 1),
+        _ => write_torn(text, draws.next_word()),
     }
 }
 
-fn value(
-    alloc: Global,
+fn write_value(
+    text: &mut Text,
     draws: &mut Pcg32,
-    leader: NodeId,
-    nodes: &NodeSet,
-    initial: &NodeSet,
-) -> Result<Option<Line>, AllocError> {
-    let text = TEXTS[(draws.next_word() % 3) as usize];
-    let Some(text) = SettingText::from_bytes(text.as_bytes()) else {
-        return Ok(None);
-    };
+    leader: &str,
+    initial: Listed,
+) -> Result<(), AllocError> {
+    let setting = TEXTS[(draws.next_word() % 3) as usize];
     let config = match draws.next_word() % 4 {
-        0 => IdList::of(alloc, &some_nodes(draws, nodes))?,
-        _ => IdList::of(alloc, initial)?,
+        0 => some_nodes(draws),
+        _ => initial,
     };
-    let text = Boxed::of(alloc, text)?;
-    let config = Boxed::of(alloc, config)?;
-    Ok(Some(Line::Value(leader, number(draws), text, config)))
+    write_words(text, &["value ", leader, " "])?;
+    text.number(number(draws))?;
+    write_words(text, &[" ", setting, " "])?;
+    write_list(text, config)
 }
 
 // The line at this place. In each forty lines one of the first two nodes is the likely candidate of a new term.
-fn line(
-    alloc: Global,
+fn write_line(
+    text: &mut Text,
     draws: &mut Pcg32,
-    nodes: &NodeSet,
-    initial: &NodeSet,
+    initial: Listed,
     place: u32,
-) -> Result<Option<Line>, AllocError> {
+) -> Result<(), AllocError> {
     let round = place / 40;
-    let (Some(id), Some(leader)) = (node(draws, nodes), nodes.get((round % 2) as usize)) else {
-        return Ok(None);
-    };
-    let line = match draws.next_word() % 64 {
-        0 => Line::Boot(id),
+    let id = node(draws);
+    let leader = NODES[(round % 2) as usize];
+    match draws.next_word() % 64 {
+        0 => write_words(text, &["boot ", id]),
         1 | 2 => {
-            let Some(candidate) = node(draws, nodes) else {
-                return Ok(None);
-            };
-            Line::StartJoin(id, Boxed::of(alloc, candidate)?, number(draws))
+            write_words(text, &["startjoin ", id, " ", node(draws), " "])?;
+            text.number(number(draws))
         }
-        3..=14 => Line::StartJoin(id, Boxed::of(alloc, leader)?, u64::from(1 + round)),
-        15 => Line::Crash(id, way(draws)),
-        16..=24 => Line::Restart(id),
-        25 => Line::Fuse(id, u64::from(1 + draws.next_word() % 12), way(draws)),
-        26 => Line::Fail(id, u64::from(1 + draws.next_word() % 12)),
-        27..=32 => return value(alloc, draws, leader, nodes, initial),
+        3..=14 => {
+            write_words(text, &["startjoin ", id, " ", leader, " "])?;
+            text.number(u64::from(1 + round))
+        }
+        15 => {
+            write_words(text, &["crash ", id, " "])?;
+            write_way(text, draws)
+        }
+        16..=24 => write_words(text, &["restart ", id]),
+        25 => {
+            write_words(text, &["fuse ", id, " "])?;
+            text.number_and(u64::from(1 + draws.next_word() % 12), b' ')?;
+            write_way(text, draws)
+        }
+        26 => {
+            write_words(text, &["fail ", id, " "])?;
+            text.number(u64::from(1 + draws.next_word() % 12))
+        }
+        27..=32 => write_value(text, draws, leader, initial),
         _ => {
             let to = match draws.next_word() % 2 {
                 0 => leader,
                 _ => id,
             };
-            Line::Deliver(to, ordinal(draws, place))
+            write_words(text, &["deliver ", to, " "])?;
+            text.number(ordinal(draws, place))
         }
-    };
-    Ok(Some(line))
+    }
 }
 
-/// A schedule of 200 lines over five nodes, drawn from this seed. In the first five each node boots.
-pub fn schedule(alloc: Global, seed: u64) -> Result<Schedule, AllocError> {
+/// Writes a schedule of 200 lines over five nodes, drawn from this seed. In the first five each node boots.
+pub fn write_schedule(text: &mut Text, seed: u64) -> Result<(), AllocError> {
     let mut draws = Pcg32::new(seed, 1);
-    let nodes = listed();
-    let initial = some_nodes(&mut draws, &nodes);
-    let mut lines = Vec::new(alloc);
-    for id in nodes.as_slice() {
-        lines.push(Line::Boot(*id))?;
+    let initial = some_nodes(&mut draws);
+    text.word("nodes ")?;
+    write_list(text, [true; 5])?;
+    text.word("\ninitial ")?;
+    write_list(text, initial)?;
+    for node in NODES {
+        write_words(text, &["\nboot ", node])?;
     }
     for place in 5..200 {
-        if let Some(line) = line(alloc, &mut draws, &nodes, &initial, place)? {
-            lines.push(line)?;
-        }
+        text.word("\n")?;
+        write_line(text, &mut draws, initial, place)?;
     }
-    Ok(Schedule {
-        nodes,
-        initial,
-        voting_only: NodeSet::new(),
-        lines: Lines::of(lines),
-    })
+    text.word("\n")
 }

@@ -1,5 +1,8 @@
 //! Schedules that are gone on with, and those that can't be. What is expected follows from docs/formats.md.
-use super::runs::{Call, Case, Fault, REPLAY, Written, all_end_by, ends, replays, written_by};
+use super::runs::{
+    Call, Case, Ending, Fault, REPLAY, Rest, Written, all_end, all_end_by, ends, replays,
+    written_by,
+};
 use schedule_generator::Generator;
 use schedule_text::{Level, write_line};
 use std::alloc::{AllocError, Global};
@@ -60,23 +63,16 @@ const GOES_ON_WITH_THE_LAST: &[u8] =
     b"startjoin a b 2\nstartjoin b b 2\ndeliver b 5\ndeliver b 6\nvalue b 2 rescue a,b\n\
     deliver a 7\ndeliver b 7\ndeliver b 8\ndeliver b 9\n";
 
-// A schedule, the words, the status, and what is written.
-type Answer = (
-    &'static [u8],
-    &'static [&'static str],
-    Status,
-    &'static [u8],
-);
-
-const ANSWERS: &[Answer] = &[
+const ANSWERS: &[Ending] = &[
     // two of three go on
-    (ELECTED, UP_A_AND_B, Status::Ok, GOES_ON),
+    (ELECTED, UP_A_AND_B, Status::Ok, GOES_ON, 0),
     // one of three does not
     (
         ELECTED,
         &["rescue", "--up", "c"],
         Status::RescueRefused,
         b"zen: no rescue: NoQuorum(1/3,1/3)\n",
+        0,
     ),
     // a node that is none
     (
@@ -84,6 +80,7 @@ const ANSWERS: &[Answer] = &[
         &["rescue", "--up", "a,b,d,e"],
         Status::RescueRefused,
         b"zen: no rescue: NotUp(d)\n",
+        0,
     ),
     // no node at all
     (
@@ -91,6 +88,7 @@ const ANSWERS: &[Answer] = &[
         UP_A,
         Status::RescueRefused,
         b"zen: no rescue: NotUp(a)\n",
+        0,
     ),
     // a node that crashed, within an act or between two, and one whose disk failed
     (
@@ -98,18 +96,21 @@ const ANSWERS: &[Answer] = &[
         UP_A,
         Status::RescueRefused,
         b"zen: no rescue: NotUp(a)\n",
+        0,
     ),
     (
         b"nodes a\ninitial a\nfuse a 1 none\nboot a\n",
         UP_A,
         Status::RescueRefused,
         b"zen: no rescue: NotUp(a)\n",
+        0,
     ),
     (
         b"nodes a\ninitial a\nfail a 1\nboot a\n",
         UP_A,
         Status::RescueRefused,
         b"zen: no rescue: NotUp(a)\n",
+        0,
     ),
     // a node that was opened again
     (
@@ -117,6 +118,7 @@ const ANSWERS: &[Answer] = &[
         UP_A,
         Status::Ok,
         b"startjoin a a 1\ndeliver a 1\nvalue a 1 rescue a\ndeliver a 2\ndeliver a 3\n",
+        0,
     ),
     // a stop or a fault that has not come; a node that is down comes first
     (
@@ -124,18 +126,21 @@ const ANSWERS: &[Answer] = &[
         UP_A,
         Status::RescueRefused,
         b"zen: no rescue: Armed(a)\n",
+        0,
     ),
     (
         b"nodes a\ninitial a\nfail a 9\n",
         UP_A,
         Status::RescueRefused,
         b"zen: no rescue: Armed(a)\n",
+        0,
     ),
     (
         b"nodes a,b\ninitial a\nfuse a 9 none\ncrash b all\n",
         UP_A_AND_B,
         Status::RescueRefused,
         b"zen: no rescue: NotUp(b)\n",
+        0,
     ),
     // no configuration, and a quorum of the committed one alone
     (
@@ -143,12 +148,14 @@ const ANSWERS: &[Answer] = &[
         UP_A,
         Status::RescueRefused,
         b"zen: no rescue: NoQuorum(0/0,0/0)\n",
+        0,
     ),
     (
         b"nodes a,b\ninitial a\nboot a\nstartjoin a a 1\nstartjoin b a 1\ndeliver a 1\ndeliver a 2\nvalue a 1 x a,b\ndeliver a 3\n",
         UP_A,
         Status::RescueRefused,
         b"zen: no rescue: NoQuorum(1/1,1/2)\n",
+        0,
     ),
     // the last term, and the last version
     (
@@ -156,12 +163,14 @@ const ANSWERS: &[Answer] = &[
         UP_A,
         Status::RescueRefused,
         b"zen: no rescue: Exhausted(4611686018427387904,0)\n",
+        0,
     ),
     (
         b"nodes a\ninitial a\nboot a\nstartjoin a a 1\ndeliver a 1\nvalue a 4611686018427387904 x a\ndeliver a 2\n",
         UP_A,
         Status::RescueRefused,
         b"zen: no rescue: Exhausted(1,4611686018427387904)\n",
+        0,
     ),
     // the newest state is not that of the least node
     (
@@ -169,6 +178,7 @@ const ANSWERS: &[Answer] = &[
         UP_A_AND_B,
         Status::Ok,
         GOES_ON_WITH_THE_LAST,
+        0,
     ),
     // a node is in a greater term than the one that has the newest state
     (
@@ -177,6 +187,7 @@ const ANSWERS: &[Answer] = &[
         Status::Ok,
         b"startjoin a a 2\nstartjoin b a 2\ndeliver a 2\ndeliver a 3\nvalue a 1 rescue a,b\n\
           deliver a 4\ndeliver b 4\ndeliver a 5\ndeliver a 6\n",
+        0,
     ),
     // no schedule
     (
@@ -184,27 +195,13 @@ const ANSWERS: &[Answer] = &[
         UP_A,
         Status::BadSchedule,
         b"zen: bad schedule at line 3: Verb\n",
+        0,
     ),
 ];
 
-// Whether a rescue answers so.
-fn answers(alloc: Global, answer: &Answer) -> Result<bool, AllocError> {
-    let (input, words, status, text) = *answer;
-    let case = Case {
-        words,
-        input,
-        ..REPLAY
-    };
-    ends(alloc, &case, status, Written::Whole(text), 0)
-}
-
 #[test]
 fn a_schedule_is_gone_on_with_or_it_is_said_why_not(rt: HostRuntime) -> Result<(), Fail> {
-    for (place, answer) in ANSWERS.iter().enumerate() {
-        let does = answers(rt.alloc(), answer)?;
-        assert!(rt; does, "row {place}");
-    }
-    Ok(())
+    all_end(&rt, rt.alloc(), &[], Rest::Nothing, ANSWERS)
 }
 
 // The last two: the first write of a plan, and that of a refusal.

@@ -46,9 +46,12 @@ pub const REPLAY_NODES: Case<'static> = Case {
     ..REPLAY
 };
 
-/// Words that are not to read the input: the first read would fail.
+/// The reads that fail of a run that is not to read the input.
+pub const NO_READ: &[u64] = &[1];
+
+/// Words that are not to read the input.
 pub const UNREAD: Case<'static> = Case {
-    reads: &[1],
+    reads: NO_READ,
     ..REPLAY
 };
 
@@ -159,28 +162,25 @@ fn ran(
     Ok(run(alloc, words.as_slice(), &mut source, sink, host))
 }
 
-// How the run ends that writes to this output, and the host as it has left it.
-fn ended(
-    alloc: Global,
-    case: &Case<'_>,
-    sink: &mut MemSink,
-) -> Result<(Status, RunHost), AllocError> {
-    let mut host = host(alloc, case)?;
-    let status = ran(alloc, case, sink, &mut host)?;
-    Ok((status, host))
+/// A run that has ended: how, its output, and the host as it has left it.
+#[derive(Drop)]
+pub struct Run {
+    pub status: Status,
+    pub sink: MemSink,
+    pub host: RunHost,
 }
 
-/// The host as the run has left it.
-pub fn host_after(alloc: Global, case: &Case<'_>) -> Result<RunHost, AllocError> {
+/// Runs the program.
+pub fn run_of(alloc: Global, case: &Case<'_>) -> Result<Run, AllocError> {
     let mut sink = sink(alloc, case)?;
-    let (_, host) = ended(alloc, case, &mut sink)?;
-    Ok(host)
+    let mut host = host(alloc, case)?;
+    let status = ran(alloc, case, &mut sink, &mut host)?;
+    Ok(Run { status, sink, host })
 }
 
 /// How the run ends, and what it has written.
 pub fn written_by(alloc: Global, case: &Case<'_>) -> Result<(Status, MemSink), AllocError> {
-    let mut sink = sink(alloc, case)?;
-    let (status, _) = ended(alloc, case, &mut sink)?;
+    let Run { status, sink, .. } = run_of(alloc, case)?;
     Ok((status, sink))
 }
 
@@ -192,9 +192,8 @@ pub fn ends(
     written: Written<'_>,
     asked: usize,
 ) -> Result<bool, AllocError> {
-    let mut sink = sink(alloc, case)?;
-    let (found, host) = ended(alloc, case, &mut sink)?;
-    Ok(found == status && written.is(sink.as_bytes()) && host.asked().len() == asked)
+    let run = run_of(alloc, case)?;
+    Ok(run.status == status && written.is(run.sink.as_bytes()) && run.host.asked().len() == asked)
 }
 
 /// A kind of call that may fail.
@@ -264,6 +263,62 @@ pub fn all_end_by(
 ) -> Result<(), Fail> {
     for (place, fault) in faults.iter().enumerate() {
         let ends = ends_by(alloc, words, fault, asked)?;
+        assert!(rt; ends, "row {place}");
+    }
+    Ok(())
+}
+
+/// What the input holds, and the first file of the journal too; the words, the status, what is written, and how many calls of the
+/// host are made.
+pub type Ending = (
+    &'static [u8],
+    &'static [&'static str],
+    Status,
+    &'static [u8],
+    usize,
+);
+
+/// What else may be written.
+#[derive(Clone, Copy)]
+pub enum Rest {
+    /// Nothing.
+    Nothing,
+    /// More, by a run with status 0.
+    MoreIfOk,
+}
+
+// Whether a run of which these reads fail ends so.
+fn ends_as(
+    alloc: Global,
+    reads: &'static [u64],
+    rest: Rest,
+    ending: &Ending,
+) -> Result<bool, AllocError> {
+    let (bytes, words, status, text, asked) = *ending;
+    let case = Case {
+        words,
+        input: bytes,
+        file: bytes,
+        reads,
+        ..REPLAY
+    };
+    let written = match rest {
+        Rest::Nothing => Written::Whole(text),
+        Rest::MoreIfOk => Written::after(status, text),
+    };
+    ends(alloc, &case, status, written, asked)
+}
+
+/// Each run, of which these reads fail, is to end so.
+pub fn all_end(
+    rt: &impl Abort,
+    alloc: Global,
+    reads: &'static [u64],
+    rest: Rest,
+    endings: &[Ending],
+) -> Result<(), Fail> {
+    for (place, ending) in endings.iter().enumerate() {
+        let ends = ends_as(alloc, reads, rest, ending)?;
         assert!(rt; ends, "row {place}");
     }
     Ok(())

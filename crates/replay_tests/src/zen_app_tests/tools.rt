@@ -1,8 +1,7 @@
 //! Runs of the tools over disks in memory. The journals that they are used on, and the digests that they show, were made apart from
 //! the program.
 use super::inspections::{COMMITTED, TERM_ONE};
-use super::runs::{Call, Case, Fault, UNREAD, Written, all_end_by, ends};
-use std::alloc::{AllocError, Global};
+use super::runs::{Call, Ending, Fault, NO_READ, Rest, all_end, all_end_by};
 use std::test::Fail;
 use zen_app::Status;
 
@@ -22,63 +21,44 @@ const GO_ALONE: &[&str] = &["unsafe-bootstrap", "--id", "a", "--dir", "a"];
 // The node is to leave its cluster.
 const LEAVE: &[&str] = &["detach-cluster", "--dir", "a"];
 
-// The words, the journal, the status, and what is written.
-type Use = (
-    &'static [&'static str],
-    &'static [u8],
-    Status,
-    &'static [u8],
-);
-
-const USES: &[Use] = &[
+const USES: &[Ending] = &[
     (
-        GO_ALONE,
         COMMITTED,
+        GO_ALONE,
         Status::Ok,
         b"term=1\naccepted=1/2\nconfig=a\ncommitted=a\nrecords=4\nsha256=853ba6494ff963ea",
+        1,
     ),
     (
-        LEAVE,
         COMMITTED,
+        LEAVE,
         Status::Ok,
         b"term=1\naccepted=0/0\nconfig=_\ncommitted=_\nrecords=4\nsha256=9d908ecfb6b256de",
+        1,
     ),
     // a node of no cluster neither goes on alone nor leaves one
-    (GO_ALONE, TERM_ONE, Status::ToolRefused, NO_STATE),
-    (LEAVE, b"", Status::ToolRefused, NO_STATE),
+    (TERM_ONE, GO_ALONE, Status::ToolRefused, NO_STATE, 1),
+    (b"", LEAVE, Status::ToolRefused, NO_STATE, 1),
     // no version comes after the last
     (
-        GO_ALONE,
         LAST,
+        GO_ALONE,
         Status::ToolRefused,
         b"zen: refused: Exhausted(4611686018427387904)\n",
+        1,
     ),
     (
-        LEAVE,
         b"ABCDEFGHIJ",
+        LEAVE,
         Status::NotAJournal,
         b"zen: not a journal: Header\n",
+        1,
     ),
 ];
 
-// Whether a tool that is used so ends so.
-fn is_used(alloc: Global, row: &Use) -> Result<bool, AllocError> {
-    let (words, file, status, text) = *row;
-    let case = Case {
-        words,
-        file,
-        ..UNREAD
-    };
-    ends(alloc, &case, status, Written::after(status, text), 1)
-}
-
 #[test]
 fn a_tool_changes_a_record_or_refuses_it(rt: HostRuntime) -> Result<(), Fail> {
-    for (place, row) in USES.iter().enumerate() {
-        let is_used = is_used(rt.alloc(), row)?;
-        assert!(rt; is_used, "row {place}");
-    }
-    Ok(())
+    all_end(&rt, rt.alloc(), NO_READ, Rest::MoreIfOk, USES)
 }
 
 // The first call of the disk after the seven that open it, the host, and the output.
