@@ -206,7 +206,6 @@ const CLAUSES: &[(&str, &str)] = &[
     ),
 ];
 
-// Whether this is the verdict on a trace.
 const ELECTIONS: &[(&str, &str)] = &[
     (ELECTION, "legal=8\nwinners=1\ncommitted=0\nwon a 1\n"),
     (UNSENT, "zen: line 20: Unsent\n"),
