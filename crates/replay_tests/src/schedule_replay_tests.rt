@@ -141,14 +141,14 @@ const THREE_BOOTS: &str = "steps=3\n\
     trace_sha256=faa0ec63a416cf1ac6a917e004bd87d720e8b8471f2893e32546ded3eb4b60b9\n";
 
 // Whether the schedule of so many steps comes to this summary.
-fn comes_to(alloc: Global, steps: u64, lines: &str) -> Result<bool, AllocError> {
-    let summary = generate(alloc, 7, steps)?;
+fn comes_to(alloc: Global, steps: u8, lines: &str) -> Result<bool, AllocError> {
+    let summary = generate(alloc, 7, u64::from(steps))?;
     let mut text = Text::new(alloc);
     write_summary(alloc, &mut text, &summary)?;
     Ok(text.as_bytes() == lines.as_bytes())
 }
 
-const SUMMARIES: &[(u64, &str)] = &[(0, NO_STEP), (1, ONE_BOOT), (3, THREE_BOOTS)];
+const SUMMARIES: &[(u8, &str)] = &[(0, NO_STEP), (1, ONE_BOOT), (3, THREE_BOOTS)];
 
 #[test]
 fn generated_schedules_come_to_these_summaries(rt: HostRuntime) -> Result<(), Fail> {
