@@ -2,6 +2,9 @@
 
 Each check is a process of its own, whose words name the crate and the kind. Its seconds are read from /proc four times a second until it ends, so up to a
 quarter of a second of each is not seen; the sum at the foot is what the system counted for the whole run, and what no row has stands in a row of its own.
+
+Seconds of two machines, or of one at two times, don't compare by themselves. So a yardstick is laid beside them: what a fixed loop takes, again and again
+while the checks run, and how much of the processors' time the host of a virtual machine kept for others.
 """
 import collections
 import os
@@ -12,6 +15,8 @@ import time
 
 TICKS = os.sysconf("SC_CLK_TCK")
 PAUSE = 0.25
+LOOKS_BETWEEN_LOOPS = 40
+LOOP = 500_000
 KINDS = ("proof", "tests", "seed", "edits", "sound")
 
 
@@ -112,14 +117,44 @@ class Seen:
         return seconds, edits
 
 
+def stolen_and_all():
+    """Returns the processors' time that the host kept so far, and all of it, in ticks."""
+    with open("/proc/stat", encoding="utf-8") as it:
+        ticks = [int(word) for word in it.readline().split()[1:9]]
+    return ticks[7], sum(ticks)
+
+
+class Yardstick:
+    """What a fixed loop takes of a processor while the checks run, and what the host keeps."""
+
+    def __init__(self):
+        self.loops = []
+        self.began = stolen_and_all()
+
+    def lay(self):
+        began = time.thread_time()
+        sum(number * number for number in range(LOOP))
+        self.loops.append(time.thread_time() - began)
+
+    def told(self):
+        stolen, all_ticks = (now - then for now, then in zip(stolen_and_all(), self.began))
+        mean, least = sum(self.loops) / len(self.loops), min(self.loops)
+        return f"yardstick: {mean * 1000:.0f} ms in the mean, {least * 1000:.0f} at the least; the host kept {stolen / max(all_ticks, 1):.0%} of the processors"
+
+
 def run(top, words):
-    seen, done = Seen(), threading.Event()
+    seen, done, yardstick = Seen(), threading.Event(), Yardstick()
+    yardstick.lay()
     began = time.time()
     child = subprocess.Popen(["rt", "ci", *words], cwd=top)
 
     def watch():
+        looks = 0
         while not done.wait(PAUSE):
             seen.look(child.pid)
+            looks += 1
+            if looks % LOOKS_BETWEEN_LOOPS == 0:
+                yardstick.lay()
 
     watcher = threading.Thread(target=watch)
     watcher.start()
@@ -127,6 +162,7 @@ def run(top, words):
     done.set()
     watcher.join()
     report(seen, usage.ru_utime + usage.ru_stime, time.time() - began)
+    print(yardstick.told())
     return os.waitstatus_to_exitcode(status)
 
 
