@@ -4,7 +4,6 @@ use clap::error::ErrorKind;
 use command_line::{NodeWords, ProgramCommand, WordsError, program, read_words};
 use schedule_text::Level;
 use std::alloc::{AllocError, Global};
-use std::test::Fail;
 use voting_config::NodeId;
 use zen_link::Peer;
 
@@ -85,16 +84,16 @@ fn words_of(alloc: Global, line: &str) -> Result<Vec<String>, AllocError> {
 }
 
 // The command that the words of a line are, in words of the test's own.
-fn told(alloc: Global, line: &str) -> Result<String, Fail> {
+fn told(alloc: Global, line: &str) -> Result<String, AllocError> {
     let words = words_of(alloc, line)?;
     match read_words(alloc, &words) {
-        Ok(command) => Ok(command_text(alloc, &command)?),
-        Err(WordsError::Usage) => Ok(String::from_str(alloc, "usage")?),
-        Err(WordsError::Memory) => Err("out of memory".into()),
+        Ok(command) => command_text(alloc, &command),
+        Err(WordsError::Usage) => String::from_str(alloc, "usage"),
+        Err(WordsError::Memory) => Err(AllocError),
     }
 }
 
-fn is_told(alloc: Global, line: &str, want: &str) -> Result<bool, Fail> {
+fn is_told(alloc: Global, line: &str, want: &str) -> Result<bool, AllocError> {
     let told = told(alloc, line)?;
     Ok(told.as_str() == want)
 }
@@ -148,12 +147,10 @@ const COMMANDS: &[(&str, &str)] = &[
 ];
 
 #[test]
-fn words_are_the_command_that_they_say(rt: HostRuntime) -> Result<(), Fail> {
+fn words_are_the_command_that_they_say(rt: HostRuntime) {
     for (line, command) in COMMANDS {
-        let is_command = is_told(rt.alloc(), line, command)?;
-        assert!(rt; is_command, "{line}");
+        assert!(rt; is_told(rt.alloc(), line, command) == Ok(true), "{line}");
     }
-    Ok(())
 }
 
 // What stands before a list of ids; and of the command what stands before them and after them.
@@ -174,25 +171,23 @@ const LISTED: &[Listed] = &[
 ];
 
 // Whether the list up to this id makes the words that command.
-fn lists(alloc: Global, words: &str, last: u8, want: &str) -> Result<bool, Fail> {
+fn lists(alloc: Global, words: &str, last: u8, want: &str) -> Result<bool, AllocError> {
     let line = with_ids(alloc, words, last, ",", "")?;
     is_told(alloc, line.as_str(), want)
 }
 
 // Whether 64 ids are listed, and 65 are no list.
-fn lists_64(alloc: Global, row: &Listed) -> Result<bool, Fail> {
+fn lists_64(alloc: Global, row: &Listed) -> Result<bool, AllocError> {
     let (words, head, tail) = *row;
     let want = with_ids(alloc, head, 64, " ", tail)?;
     Ok(lists(alloc, words, 64, want.as_str())? && lists(alloc, words, 65, "usage")?)
 }
 
 #[test]
-fn a_list_has_up_to_64_ids(rt: HostRuntime) -> Result<(), Fail> {
+fn a_list_has_up_to_64_ids(rt: HostRuntime) {
     for (at, row) in LISTED.iter().enumerate() {
-        let lists_64 = lists_64(rt.alloc(), row)?;
-        assert!(rt; lists_64, "row {at}");
+        assert!(rt; lists_64(rt.alloc(), row) == Ok(true), "row {at}");
     }
-    Ok(())
 }
 
 const OTHER_WORDS: &[&str] = &[
@@ -244,12 +239,10 @@ const HELPS: &[&str] = &["--help", "replay --help"];
 
 // `read_words` says `Usage` for all that clap refuses. Clap itself prints no help of its own.
 #[test]
-fn clap_knows_no_help(rt: HostRuntime) -> Result<(), Fail> {
+fn clap_knows_no_help(rt: HostRuntime) {
     for line in HELPS {
-        let is_unknown = is_unknown(rt.alloc(), line)?;
-        assert!(rt; is_unknown, "{line}");
+        assert!(rt; is_unknown(rt.alloc(), line) == Ok(true), "{line}");
     }
-    Ok(())
 }
 
 const NODES: &[&str] = &[
@@ -370,12 +363,13 @@ const REFUSED: &[(&str, &[&str])] = &[
 ];
 
 #[test]
-fn words_that_are_no_command_are_a_usage(rt: HostRuntime) -> Result<(), Fail> {
+fn words_that_are_no_command_are_a_usage(rt: HostRuntime) {
     for (name, lines) in REFUSED {
         for line in *lines {
-            let is_usage = is_told(rt.alloc(), line, "usage")?;
-            assert!(rt; is_usage, "{name}: {line}");
+            assert!(rt;
+                is_told(rt.alloc(), line, "usage") == Ok(true),
+                "{name}: {line}"
+            );
         }
     }
-    Ok(())
 }

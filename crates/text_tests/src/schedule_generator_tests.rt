@@ -2,7 +2,6 @@
 use schedule_generator::{Generator, empty_schedule};
 use schedule_text::{Level, Line, Lines, read_schedule, write_line, write_schedule};
 use std::alloc::{AllocError, Global};
-use std::test::Fail;
 use text::Text;
 
 // The first lines of a number's schedule, where each line sends one message.
@@ -88,12 +87,13 @@ const DRAWN: &[(&str, u64, u64, usize, &str)] = &[
 ];
 
 #[test]
-fn numbers_give_their_lines(rt: HostRuntime) -> Result<(), Fail> {
+fn numbers_give_their_lines(rt: HostRuntime) {
     for (name, number, steps, first, wanted) in DRAWN {
-        let are_drawn = are_drawn(rt.alloc(), *number, (*first, *steps), wanted)?;
-        assert!(rt; are_drawn, "{name}: {wanted}");
+        assert!(rt;
+            are_drawn(rt.alloc(), *number, (*first, *steps), wanted) == Ok(true),
+            "{name}: {wanted}"
+        );
     }
-    Ok(())
 }
 
 fn generated(alloc: Global, number: u64, steps: u64) -> Result<Text, AllocError> {
@@ -114,8 +114,6 @@ fn is_read_back(alloc: Global, number: u64, steps: u64) -> Result<bool, AllocErr
 }
 
 #[test]
-fn a_schedule_is_read_back_from_its_text(rt: HostRuntime) -> Result<(), Fail> {
-    let is_read_back = is_read_back(rt.alloc(), 11, 300)?;
-    assert!(rt; is_read_back);
-    Ok(())
+fn a_schedule_is_read_back_from_its_text(rt: HostRuntime) {
+    assert!(rt; is_read_back(rt.alloc(), 11, 300) == Ok(true));
 }

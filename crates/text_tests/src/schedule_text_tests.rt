@@ -236,12 +236,13 @@ const FAULTS: &[(&str, &[Level], &str, Fault)] = &[
 ];
 
 #[test]
-fn names_the_first_fault_of_a_text(rt: HostRuntime) -> Result<(), Fail> {
+fn names_the_first_fault_of_a_text(rt: HostRuntime) {
     for (name, levels, text, wanted) in FAULTS {
-        let has_fault = has_fault(rt.alloc(), levels, text.as_bytes(), *wanted)?;
-        assert!(rt; has_fault, "{name}: {text}");
+        assert!(rt;
+            has_fault(rt.alloc(), levels, text.as_bytes(), *wanted) == Ok(true),
+            "{name}: {text}"
+        );
     }
-    Ok(())
 }
 
 // A header with so many nodes and so many first voters.
@@ -268,12 +269,13 @@ const LONG_HEADERS: &[(u8, u8, Fault)] = &[
 ];
 
 #[test]
-fn a_header_lists_up_to_64_ids(rt: HostRuntime) -> Result<(), Fail> {
+fn a_header_lists_up_to_64_ids(rt: HostRuntime) {
     for (nodes, voters, wanted) in LONG_HEADERS {
-        let has_fault = has_header_fault(rt.alloc(), *nodes, *voters, *wanted)?;
-        assert!(rt; has_fault, "{nodes} and {voters}");
+        assert!(rt;
+            has_header_fault(rt.alloc(), *nodes, *voters, *wanted) == Ok(true),
+            "{nodes} and {voters}"
+        );
     }
-    Ok(())
 }
 
 // Whether the schedule that a text spells is printed as that text.
@@ -325,12 +327,13 @@ const PRINTED: &[(&str, Level, &[u8])] = &[
 ];
 
 #[test]
-fn prints_each_schedule_as_it_was_read(rt: HostRuntime) -> Result<(), Fail> {
+fn prints_each_schedule_as_it_was_read(rt: HostRuntime) {
     for (name, level, text) in PRINTED {
-        let prints_itself = prints_itself(rt.alloc(), *level, text)?;
-        assert!(rt; prints_itself, "{name}");
+        assert!(rt;
+            prints_itself(rt.alloc(), *level, text) == Ok(true),
+            "{name}"
+        );
     }
-    Ok(())
 }
 
 // Writes what a line of a client holds, to which byte a crash tears, or of a value its version, the length of its text and the number of its nodes.
@@ -394,12 +397,13 @@ const SHOWN: &[(&str, Level, &[u8], &str)] = &[
 ];
 
 #[test]
-fn shows_what_a_line_holds(rt: HostRuntime) -> Result<(), Fail> {
+fn shows_what_a_line_holds(rt: HostRuntime) {
     for (name, level, text, wanted) in SHOWN {
-        let shows = shows(rt.alloc(), *level, text, wanted)?;
-        assert!(rt; shows, "{name}");
+        assert!(rt;
+            shows(rt.alloc(), *level, text, wanted) == Ok(true),
+            "{name}"
+        );
     }
-    Ok(())
 }
 
 // Whether a fault is written into a text that was cleared.
@@ -417,10 +421,8 @@ fn has_cleared_for_fault(alloc: Global) -> Result<bool, AllocError> {
 }
 
 #[test]
-fn prints_a_fault(rt: HostRuntime) -> Result<(), Fail> {
-    let prints = has_cleared_for_fault(rt.alloc())?;
-    assert!(rt; prints);
-    Ok(())
+fn prints_a_fault(rt: HostRuntime) {
+    assert!(rt; has_cleared_for_fault(rt.alloc()) == Ok(true));
 }
 
 // What a text begins with, a part of it and how many times that stands there, its end, and its fault.

@@ -7,7 +7,6 @@ use cluster_state::{
     ValueCause, to_json,
 };
 use std::alloc::{AllocError, Global};
-use std::test::Fail;
 use text::Text;
 use trace_text::{
     Ending, write_act_head, write_boot, write_cause, write_commit, write_commit_message,
@@ -118,12 +117,13 @@ const CAUSES: &[(Why, u64, u64, &str)] = &[
 ];
 
 #[test]
-fn causes_have_their_values(rt: HostRuntime) -> Result<(), Fail> {
+fn causes_have_their_values(rt: HostRuntime) {
     for (why, own, other, wanted) in CAUSES {
-        let is_cause = is_cause(rt.alloc(), cause(*why, *own, *other), wanted)?;
-        assert!(rt; is_cause, "{wanted}");
+        assert!(rt;
+            is_cause(rt.alloc(), cause(*why, *own, *other), wanted) == Ok(true),
+            "{wanted}"
+        );
     }
-    Ok(())
 }
 
 fn join() -> Join {
@@ -318,12 +318,13 @@ const PARTS: &[(&str, &[(Part, &str)])] = &[
 ];
 
 #[test]
-fn parts_have_their_lines(rt: HostRuntime) -> Result<(), Fail> {
+fn parts_have_their_lines(rt: HostRuntime) {
     for (name, rows) in PARTS {
         for (part, wanted) in *rows {
-            let is_part = is_part(rt.alloc(), *part, wanted)?;
-            assert!(rt; is_part, "{name}: {wanted}");
+            assert!(rt;
+                is_part(rt.alloc(), *part, wanted) == Ok(true),
+                "{name}: {wanted}"
+            );
         }
     }
-    Ok(())
 }
