@@ -1,4 +1,4 @@
--- Part of the statement: the digest of a body that accepts a state.
+-- For the contracts inside: the digest of a body that accepts a state.
 use Rattle.std.specs.Prelude.{ℕ, List, ◌∷◌}
 use Rattle.sha2.specs.Sha256.{sha256}
 use Rattle.cluster_state.specs.States.{state}

@@ -111,7 +111,8 @@ fn has_word(answers: &[AnswerOf], voters: &IdList, roster: &[&str], word: u64) -
     for answer in answers {
         let _ = added(&mut round, *answer, &committed, voters);
     }
-    is_roster(round.roster(), roster) && round.word() == word
+    let (found, bits) = round.marks();
+    is_roster(found, roster) && bits == word
 }
 
 #[test]

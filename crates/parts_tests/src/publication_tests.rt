@@ -53,7 +53,7 @@ fn holds(publication: &Publication, call: Call) -> bool {
         Call::IsDone(now, laggards) => is_done(publication.tick(now), laggards),
         Call::HaveResponded(nodes, word) => {
             let responders = publication.responders();
-            responders.sources().as_slice() == set(nodes).as_slice() && responders.word() == word
+            responders.sources().as_slice() == set(nodes).as_slice() && responders.marks().1 == word
         }
         Call::IsCommitSent(is_sent) => publication.is_commit_sent() == is_sent,
         Call::IsFinished(is_finished) => publication.is_finished() == is_finished,

@@ -1,6 +1,7 @@
 //! `PreVotes`: one round of pre-votes, from its start on.
-ghost use Rattle.std.specs.Prelude.{◌≡◌, ◌+◌, ◌≤◌, ◌||◌, count_ones, length, IsTrue};
-ghost use Rattle.voting_config.specs.Ids.{are_among, most_ids};
+ghost use Rattle.std.specs.Prelude.{◌≡◌, ◌+◌, ◌≤◌, ◌||◌, length, IsTrue};
+ghost use Rattle.voting_config.specs.Ids.{most_ids};
+ghost use Rattle.voting_config.specs.Rosters.{marked};
 ghost use Rattle.cluster_state.specs.Field.{last_number};
 ghost use Rattle.pre_vote.specs.Calls.{Calls, Start, Add, has_room, is_vote as vote_of};
 
@@ -125,19 +126,12 @@ impl PreVotes {
         }
     }
 
-    /// The roster of the voters: the node itself, and who was counted since, in the order of first sight. Where 64 are on it and another
-    /// one comes, it is made anew of the voters, as they ascend.
-    pub fn roster(&self) -> &Roster
-        ensures { IsTrue (are_among result.now self.now.voters) }
+    /// A roster, and a word over it: the voters are the roster's ids at the bits of the word. The roster has the node itself, and who was
+    /// counted since, in the order of first sight. Where 64 are on it and another one comes, it is made anew of the voters, as they ascend.
+    pub fn marks(&self) -> (&Roster, u64)
+        ensures { marked result.0.now result.1 ≡ self.now.voters }
     {
-        self.voters.roster()
-    }
-
-    /// The voters as a word over their roster: a bit for each of them.
-    pub fn word(&self) -> u64
-        ensures { count_ones result ≡ length self.now.voters }
-    {
-        self.voters.word()
+        self.voters.marks()
     }
 }
 

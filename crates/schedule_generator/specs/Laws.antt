@@ -1,4 +1,4 @@
--- Part of the statement: what holds of every generated schedule, as a statement.
+-- For the contracts inside: what holds of every generated schedule, as a statement.
 use Rattle.std.specs.Prelude.{ℕ, ◌≤◌, List, length}
 use Rattle.schedule_text.specs.Spelled.{Spells, schedule_text}
 use Rattle.schedule_text.specs.declared.level.Level.TheVariants.{Core}

@@ -45,7 +45,8 @@ fn voted((sources, out, _, _): &Counted) -> JoinVotes {
 }
 
 fn are_counted(votes: &JoinVotes, (_, _, roster, word): &Counted) -> bool {
-    is_roster(votes.roster(), roster) && votes.word() == *word
+    let (found, bits) = votes.marks();
+    is_roster(found, roster) && bits == *word
 }
 
 #[test]
@@ -54,7 +55,7 @@ fn votes_are_bits_at_the_places_of_their_sources(rt: HostRuntime) {
         let mut votes = voted(row);
         assert!(rt; are_counted(&votes, row));
         votes.clear();
-        assert!(rt; votes.word() == 0 && votes.len() == 0);
+        assert!(rt; votes.marks().1 == 0 && votes.len() == 0);
     }
 }
 
@@ -64,10 +65,11 @@ fn a_roster_full_of_nodes_that_do_not_vote_is_made_anew(rt: HostRuntime) {
     for id in set("n01..n64").as_slice() {
         add(&mut votes, *id);
     }
-    assert!(rt; votes.roster().len() == MAX_IDS);
+    assert!(rt; votes.marks().0.len() == MAX_IDS);
     votes.clear();
     add(&mut votes, id("z"));
-    assert!(rt; is_roster(votes.roster(), &["z"]) && votes.word() == 1);
+    let (roster, word) = votes.marks();
+    assert!(rt; is_roster(roster, &["z"]) && word == 1);
 }
 
 // The join as the node a checks it, in term 4 and with the accepted state 1/2.

@@ -637,7 +637,7 @@ fn is_tally(before: &str, changes: &[Change], after: &str, word: u64) -> bool {
     for change in changes {
         has_room = apply(&mut tally, *change) && has_room;
     }
-    has_room && is(&tally.sources(), after) && tally.word() == word
+    has_room && is(&tally.sources(), after) && tally.marks().1 == word
 }
 
 #[test]
@@ -645,5 +645,5 @@ fn a_tally_is_a_word_over_its_roster(rt: HostRuntime) {
     for (at, (before, changes, after, word)) in TALLIES.iter().enumerate() {
         assert!(rt; is_tally(before, changes, after, *word), "row {at}");
     }
-    assert!(rt; Tally::new().len() == 0 && Tally::new().roster().len() == 0);
+    assert!(rt; Tally::new().len() == 0 && Tally::new().marks().0.len() == 0);
 }

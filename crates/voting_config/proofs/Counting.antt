@@ -1,18 +1,17 @@
 -- What the calls of votes make of their words.
-use Rattle.std.proofs.Common.{◌≡◌, ℕ, ◌^◌, ◌<◌, ◌≤◌, Bool, true, false, cond, Some, None, ◌&&◌, ◌||◌, ◌/◌, ◌⊎◌, inl, inr, List, [], ◌∷◌, ◌++◌, length, refl, sym, ◌∙◌, ap, arith, w64}
+use Rattle.std.proofs.Common.{◌≡◌, ℕ, ◌^◌, ◌<◌, ◌≤◌, Bool, true, false, cond, Some, None, ◌&&◌, ◌/◌, List, [], ◌∷◌, ◌++◌, length, refl, sym, ◌∙◌, ap, arith, w64}
 use Rattle.std.specs.Prelude.{bit_and, bit_or, count_ones}
 use Rattle.std.specs.Int.{bit_not}
 use Rattle.std.proofs.Math.Pow.{pow_mono}
-use Rattle.std.proofs.lemmas.Bool.{lt-ltb}
 use Rattle.std.proofs.lemmas.Bool.Decides.{nat_tests}
 use Rattle.std.proofs.lemmas.List.{length-append}
 use Rattle.std.proofs.lemmas.Nat.{pow_pos}
-use Rattle.voting_config.specs.Ids.{Id, ascends, has, has_room, with_id, without_id, most_ids, are_among, is_quorum_of}
+use Rattle.voting_config.specs.Ids.{Id, ascends, has, with_id, without_id, is_quorum_of}
 use Rattle.voting_config.specs.Rosters.{IsRoster, are_distinct, place_on, admitted, mask_of, ids_at, marked, is_quorum_mask}
 use Rattle.voting_config.proofs.Sorted.{without_id-absent}
 use Rattle.voting_config.proofs.Sets.{count_among-le}
 use Rattle.voting_config.proofs.Rosters.{at_roster, ascends-set_of, ascends-with_id, marked-mask, mask_of-lt, place_none, place_last}
-use Rattle.voting_config.proofs.Words.{among_from, and-within, count_marked, marked_append, marked_among, marked_clear, marked_or, marked_quorum, mask_admitted, or-within}
+use Rattle.voting_config.proofs.Words.{among_from, and-within, count_marked, marked_append, marked_clear, marked_or, marked_quorum, mask_admitted, or-within}
 use Rattle.voting_config.specs.Votes.{AreCounted}
 
 module _ (roster : List Id) (votes : ℕ) (committed : List Id) (cw : ℕ) (current : List Id) (nw : ℕ) (are : AreCounted roster votes committed cw current nw) where
@@ -71,9 +70,6 @@ module _ (roster : List Id) (votes : ℕ) (committed : List Id) (cw : ℕ) (curr
 
   pub counted : count_ones votes ≡ length (marked roster votes)
   counted = count_marked roster votes are.is_roster.distinct are.within
-
-  pub sources_on : are_among roster (marked roster votes) ≡ true
-  sources_on = marked_among roster votes are.is_roster.distinct
 
   pub is_quorum : (config : List Id) → are_distinct config ≡ true → is_quorum_mask votes (mask_of roster config) (length config) ≡ is_quorum_of config (marked roster votes)
   is_quorum config distinct = marked_quorum roster config votes are.is_roster.distinct are.within distinct

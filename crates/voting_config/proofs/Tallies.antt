@@ -4,11 +4,11 @@ use Rattle.std.specs.Prelude.{bit_and, bit_or, count_ones}
 use Rattle.std.specs.Int.{bit_not, w64}
 use Rattle.std.proofs.Math.Pow.{pow_mono}
 use Rattle.std.proofs.lemmas.List.{length-append}
-use Rattle.voting_config.specs.Ids.{Id, has, with_id, without_id, are_among, ascends}
+use Rattle.voting_config.specs.Ids.{Id, has, with_id, without_id, ascends}
 use Rattle.voting_config.specs.Rosters.{IsRoster, IsTally, place_on, admitted, mask_of, marked}
 use Rattle.voting_config.proofs.Sorted.{without_id-absent}
 use Rattle.voting_config.proofs.Rosters.{at_roster, marked-mask, mask_of-lt, place_none}
-use Rattle.voting_config.proofs.Words.{among_from, and-within, count_marked, marked_among, marked_append, marked_clear, marked_or, or-within}
+use Rattle.voting_config.proofs.Words.{among_from, and-within, count_marked, marked_append, marked_clear, marked_or, or-within}
 
 -- an id more on the roster changes no set
 
@@ -53,9 +53,6 @@ module _ (roster : List Id) (word : ℕ) (is : IsTally roster word) where
 
   pub counted : count_ones word ≡ length (marked roster word)
   counted = count_marked roster word is.is_roster.distinct is.within
-
-  pub all_on : are_among roster (marked roster word) ≡ true
-  all_on = marked_among roster word is.is_roster.distinct
 
 -- all the ids of a roster
 

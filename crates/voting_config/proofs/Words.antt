@@ -78,9 +78,6 @@ among_from roster (x ∷ xs) on =
     or_true true = refl
     or_true false = refl
 
-pub marked_among : (roster : List Id) (w : ℕ) → are_distinct roster ≡ true → are_among roster (marked roster w) ≡ true
-marked_among roster w h = among_from roster (marked roster w) (λ x there. marked_on x roster w h there)
-
 -- a quorum by words
 
 pub marked_quorum : (roster config : List Id) (w : ℕ) → are_distinct roster ≡ true → w < 2 ^ length roster → are_distinct config ≡ true

@@ -1,4 +1,4 @@
--- Part of the statement: ids in the order of their first sight, and sets of them as words of bits.
+-- For the contracts inside: ids in the order of their first sight, and sets of them as words of bits.
 use Rattle.std.specs.Prelude.{◌≡◌, ℕ, ◌+◌, ◌*◌, ◌/◌, ◌%◌, ◌^◌, ◌<◌, ◌≤◌, Bool, true, not, ◌&&◌, Option, List, [], ◌∷◌, ◌++◌, length, position, IsTrue, nat_eq, nat_lt, bit_and, count_ones, if◌then◌else◌}
 use Rattle.std.specs.List.{list_all}
 use Rattle.voting_config.specs.Ids.{Id, has, same, is_id, most_ids, set_of, are_among, is_quorum_of, IsIdSet}

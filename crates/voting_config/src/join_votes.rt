@@ -1,6 +1,7 @@
 //! `JoinVotes`: the nodes that joined, or answered a publication or a pre-vote request.
-ghost use Rattle.std.specs.Prelude.{◌≡◌, ◌<◌, ◌⊎◌, ◌&&◌, [], length, true, IsTrue, count_ones};
-ghost use Rattle.voting_config.specs.Ids.{has, has_room as has_room_of, with_id, without_id, most_ids, is_quorum_of, are_among, IsIdSet};
+ghost use Rattle.std.specs.Prelude.{◌≡◌, ◌<◌, ◌⊎◌, ◌&&◌, [], length, true, IsTrue};
+ghost use Rattle.voting_config.specs.Ids.{has, has_room as has_room_of, with_id, without_id, most_ids, is_quorum_of, IsIdSet};
+ghost use Rattle.voting_config.specs.Rosters.{marked};
 
 use crate::config::VotingConfig;
 use crate::id_list::IdList;
@@ -140,18 +141,11 @@ impl JoinVotes {
         self.roster.marked(self.word)
     }
 
-    /// The roster, on which each source is.
-    pub fn roster(&self) -> &Roster
-        ensures { IsTrue (are_among result.now self.now) }
+    /// A roster, and a word over it: the sources are the roster's ids at the bits of the word.
+    pub fn marks(&self) -> (&Roster, u64)
+        ensures { marked result.0.now result.1 ≡ self.now }
     {
-        &self.roster
-    }
-
-    /// The votes as a word over the roster: a bit for each of them.
-    pub fn word(&self) -> u64
-        ensures { count_ones result ≡ length self.now }
-    {
-        self.word
+        (&self.roster, self.word)
     }
 
     /// Whether the votes are a quorum of the configuration of these ids.

@@ -1,6 +1,7 @@
 //! `Tally`: ids that are counted, as a word over a roster of their own.
-ghost use Rattle.std.specs.Prelude.{◌≡◌, [], length, IsTrue, count_ones};
-ghost use Rattle.voting_config.specs.Ids.{are_among, has, has_room, with_id, without_id};
+ghost use Rattle.std.specs.Prelude.{◌≡◌, [], length, IsTrue};
+ghost use Rattle.voting_config.specs.Ids.{has, has_room, with_id, without_id};
+ghost use Rattle.voting_config.specs.Rosters.{marked};
 
 use crate::node_id::NodeId;
 use crate::node_set::NodeSet;
@@ -106,17 +107,10 @@ impl Tally {
         self.roster.marked(self.word)
     }
 
-    /// The roster, on which each of the ids is.
-    pub fn roster(&self) -> &Roster
-        ensures { IsTrue (are_among result.now self.now) }
+    /// A roster, and a word over it: the ids are the roster's at the bits of the word.
+    pub fn marks(&self) -> (&Roster, u64)
+        ensures { marked result.0.now result.1 ≡ self.now }
     {
-        &self.roster
-    }
-
-    /// The ids as a word over the roster: a bit for each of them.
-    pub fn word(&self) -> u64
-        ensures { count_ones result ≡ length self.now }
-    {
-        self.word
+        (&self.roster, self.word)
     }
 }
