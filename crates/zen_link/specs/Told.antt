@@ -2,7 +2,7 @@
 use Rattle.std.specs.Prelude.{◌≡◌, ℕ, ◌+◌, ◌-◌, ◌^◌, min, Bool, true, nat_lt, ◌⊎◌, Option, None, Some, Result, Ok, Err, List, [], ◌∷◌, ◌++◌, unwrap_or, slice_get}
 use Rattle.zen_disk.specs.Faults.{Rose}
 use Rattle.zen_link.specs.declared.link.Input.{Input}
-use Rattle.zen_link.specs.declared.link.Input.TheVariants.{Bytes, Closed, Tick, Stop}
+use Rattle.zen_link.specs.declared.link.Input.TheVariants.{Bytes, Closed, Disconnected, Tick, Stop}
 use Rattle.zen_link.specs.declared.link.LinkError.{LinkError}
 use Rattle.zen_link.specs.declared.link.Traffic.{Traffic}
 use Rattle.zen_link.specs.declared.link.Traffic.TheVariants.{Took}
@@ -33,6 +33,7 @@ most_connections = 192
 abbrev pub has_low_conn : Input → Bool
 has_low_conn (Bytes conn bytes) = nat_lt conn most_connections
 has_low_conn (Closed conn) = nat_lt conn most_connections
+has_low_conn (Disconnected peer) = true
 has_low_conn (Tick now word) = true
 has_low_conn Stop = true
 

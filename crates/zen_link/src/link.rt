@@ -20,6 +20,9 @@ pub enum Input {
     Bytes { conn: u64, bytes: Bytes },
     /// The connection is over. Its number may come again, for another one.
     Closed { conn: u64 },
+    /// The peer is lost: the last connection that brought its frames has ended, or one that was opened to it has ended or was
+    /// refused while no other brings its frames. A peer that only fell silent is not told: its connection still stands.
+    Disconnected { peer: NodeId },
     /// The milliseconds since the link was opened, and a random word. A tick comes when nothing else came for 50 ms, and at
     /// least every 100 ms all the same: a client that floods must not stop the node's clock. So it doesn't say that
     /// nothing waits.
@@ -38,6 +41,7 @@ impl Clone for Input {
                 bytes: bytes.clone()?,
             },
             Input::Closed { conn } => Input::Closed { conn: *conn },
+            Input::Disconnected { peer } => Input::Disconnected { peer: *peer },
             Input::Tick { now, word } => Input::Tick {
                 now: *now,
                 word: *word,
