@@ -11,7 +11,7 @@ use Rattle.fault_checks.specs.declared.leader.LeaderTick.TheVariants.{Quiet, Ask
 use Rattle.fault_checks.specs.Spans.{check_interval, check_retry_count}
 use Rattle.fault_checks.specs.Checks.{unchecked, failed_at, answered_at, is_overdue, timed_out_at, has_failed, is_due, fails, asks}
 use Rattle.fault_checks.specs.Happenings.{Happening, Began, Sent, SaidYes, SaidNo, TimedOut, is_failure, outcomes_in, last_three_failed, outstanding, is_next_due, sends, with_tick, with_answer}
-use Rattle.fault_checks.specs.Followers.{Calls, Started, Then, Watched, Finished, Answered, Ticked, members_of, check_of, behind_of, follower_of, followers_of, is_late, drops_for_checks, is_asked, ids_of, to_ask, to_drop_for_checks}
+use Rattle.fault_checks.specs.Followers.{Calls, Started, Then, Watched, Finished, Answered, Ticked, Disconnected, members_of, check_of, behind_of, follower_of, followers_of, is_late, drops_for_checks, is_asked, ids_of, to_ask, to_drop_for_checks}
 use Rattle.fault_checks.specs.Leaders.{LeaderCalls, LeaderStarted, LeaderThen, LeaderAnswered, LeaderTicked, check_of as leader_checks, leader_check_of, leader_tick}
 use Rattle.fault_checks.specs.Laws.{happened_to, happened_to_leader}
 
@@ -157,6 +157,7 @@ follower-agrees (Then calls (Answered from good applied now)) id =
       | false ↦ follower-agrees calls id
     ]
 follower-agrees (Then calls (Ticked now)) id = (tick-agrees (check_of calls id) (happened_to calls id) now (follower-agrees calls id)).after
+follower-agrees (Then calls (Disconnected from)) id = follower-agrees calls id
 
 follower-ticks : (calls : Calls) (now : ℕ) (id : Id) → Ticks (timed_out_at (check_of calls id) now) now (happened_to calls id) (with_tick (happened_to calls id) now)
 follower-ticks calls now id = tick-agrees (check_of calls id) (happened_to calls id) now (follower-agrees calls id)

@@ -1,5 +1,5 @@
 -- The set of the ids of some followers, made from the last to the first.
-use Rattle.std.proofs.Common.{◌≡◌, ℕ, suc, ◌+◌, ◌-◌, ◌<◌, ◌≤◌, ◌∙◌, sym, get_or, drop, Bool, true, false, cond, List, ◌∷◌, [], length, ap, arith}
+use Rattle.std.proofs.Common.{◌≡◌, ℕ, suc, ◌+◌, ◌-◌, ◌<◌, ◌≤◌, ◌∙◌, sym, get_or, drop, Bool, true, false, cond, List, ◌∷◌, [], length, ap, refl, arith}
 use Rattle.std.specs.Prelude.{filter}
 use Rattle.std.proofs.lemmas.Bool.{and_parts}
 use Rattle.std.proofs.lemmas.List.{drop_more, length-map}
@@ -35,3 +35,8 @@ chosen-step p fs place f old new up some within read so_far made =
     let up_here : ascends (ids_of (f ∷ drop place fs)) ≡ true = sym (ap (λ (l : List Follower). ascends (ids_of l)) rest) ∙ ascends-drop (place - 1) fs up in
     let low : is_below f.id (ids_of (drop place fs)) ≡ true = (and_parts (is_below f.id (ids_of (drop place fs))) (ascends (ids_of (drop place fs))) up_here).0 in
     rw rest (chosen-first p f (drop place fs) new low (made ∙ ap (λ (ids : List Id). cond (p f) (with_id f.id ids) ids) so_far))
+
+-- all are chosen by a test that always holds
+pub filter-all : (fs : List Follower) → filter (λ (f : Follower). true) fs ≡ fs
+filter-all [] = refl
+filter-all (f ∷ fs) = ap (λ t. f ∷ t) (filter-all fs)

@@ -3,12 +3,12 @@ use Rattle.std.proofs.Common.{◌≡◌, ℕ, Bool, true, false, cond, not, ◌|
 use Rattle.std.specs.Prelude.{filter, is_none}
 use Rattle.std.proofs.lemmas.Simd.{map-map}
 use Rattle.std.specs.Cmp.Lexicographic.{same_text}
-use Rattle.voting_config.specs.Ids.{Id, has, same}
+use Rattle.voting_config.specs.Ids.{Id, has, same, without_id}
 use Rattle.cluster_state.specs.declared.state.StateId.{StateId}
 use Rattle.fault_checks.specs.declared.followers.Behind.{Behind}
 use Rattle.fault_checks.specs.declared.followers.Follower.{Follower}
 use Rattle.fault_checks.specs.Checks.{unchecked, failed_at, ticked_at}
-use Rattle.fault_checks.specs.Followers.{Followers, Calls, Call, Then, Watched, Finished, Answered, Ticked, StandsFor, followers_of, after, members_of, check_of, applied_of, behind_of, finished_of, follower_of, new_follower, watched_or_new, behind_finished, behind_after, answered_from, is_kept, stays, stayed, no_state}
+use Rattle.fault_checks.specs.Followers.{Followers, Calls, Call, Then, Watched, Finished, Answered, Ticked, Disconnected, StandsFor, followers_of, after, members_of, check_of, applied_of, behind_of, finished_of, follower_of, new_follower, watched_or_new, behind_finished, behind_after, answered_from, is_kept, stays, stayed, others_of, no_state}
 
 map-each : {X Y : Type 0} (f g : X → Y) (xs : List X) → ((x : X) → f x ≡ g x) → map f xs ≡ map g xs
 map-each f g [] h = refl
@@ -49,6 +49,15 @@ ticked-each calls now (y ∷ ys) =
       | false ↦ others
     ]
 
+others-each : (calls : Calls) (id : Id) (ids : List Id) → map (λ i. follower_of (Then calls (Disconnected id)) i) (without_id id ids) ≡ others_of (map (λ i. follower_of calls i) ids) id
+others-each calls id [] = refl
+others-each calls id (y ∷ ys) =
+    let others = others-each calls id ys in
+    elim (same y id) as (λ b. map (λ i. follower_of (Then calls (Disconnected id)) i) (cond (not b) (y ∷ without_id id ys) (without_id id ys)) ≡ cond (not b) (follower_of calls y ∷ others_of (map (λ i. follower_of calls i) ys) id) (others_of (map (λ i. follower_of calls i) ys) id)) [
+      | true ↦ others
+      | false ↦ ap (λ t. follower_of calls y ∷ t) others
+    ]
+
 -- the look-backs over one more call are those of before, changed by this call
 pub followers_of-Then : (calls : Calls) (call : Call) → followers_of (Then calls call) ≡ after (followers_of calls) call
 followers_of-Then calls (Watched members now) =
@@ -62,6 +71,8 @@ followers_of-Then calls (Answered from good applied now) =
     ∙ sym (map-map (λ (f : Follower). answered_from f from (finished_of calls) good applied now) (λ id. follower_of calls id) (members_of calls)))
 followers_of-Then calls (Ticked now) =
     ap (λ (fs : List Follower). record (followers_of calls) { watched = fs }) (ticked-each calls now (members_of calls))
+followers_of-Then calls (Disconnected id) =
+    ap (λ (fs : List Follower). record (followers_of calls) { watched = fs }) (others-each calls id (members_of calls))
 
 -- what stands for the calls so far stands for these with one more
 pub stands-Then : (old new : Followers) (call : Call) → new ≡ after old call → (calls : Calls) → StandsFor old calls → StandsFor new (Then calls call)

@@ -1,6 +1,6 @@
 -- Part of the statement: whether the followers answer and keep up, by the calls so far.
 use Rattle.std.specs.Prelude.{◌≡◌, ℕ, Bool, true, false, not, ◌&&◌, Option, None, Some, List, [], ◌∷◌, map, filter, if◌then◌else◌, is_none}
-use Rattle.voting_config.specs.Ids.{Id, has, same}
+use Rattle.voting_config.specs.Ids.{Id, has, same, without_id}
 use Rattle.cluster_state.specs.declared.state.StateId.{StateId}
 use Rattle.cluster_state.specs.StateIds.{is_reached, is_same_state}
 use Rattle.election_clock.specs.Delays.{has_passed}
@@ -19,6 +19,8 @@ pub data Call : Type 0 where
   -- a follower answered, with the state that it has applied
   Answered : (from : Id) → (good : Bool) → (applied : StateId) → (now : ℕ) → Call
   Ticked : (now : ℕ) → Call
+  -- the connection to a follower ended
+  Disconnected : (id : Id) → Call
 
 -- the start, and the calls since, the newest last
 pub data Calls : Type 0 where
@@ -87,6 +89,10 @@ stays f now = is_kept f.check f.behind now
 abbrev pub stayed : List Follower → ℕ → List Follower
 stayed fs now = map (λ (f : Follower). record f { check = ticked_at f.check now }) (filter (λ (f : Follower). stays f now) fs)
 
+-- the other followers
+abbrev pub others_of : List Follower → Id → List Follower
+others_of fs id = filter (λ (f : Follower). not (same f.id id)) fs
+
 -- whom a tick asks
 abbrev pub is_asked : Follower → ℕ → Bool
 is_asked f now = stays f now && asks f.check now
@@ -98,11 +104,12 @@ finished_of (Then calls (Finished state now)) = state
 finished_of (Then calls call) = finished_of calls
 
 abbrev mutual
-  -- the followers that are watched: the members last named, without those that a tick dropped since
+  -- the followers that are watched: the members last named, without those that a tick dropped or whose connection ended since
   pub members_of : Calls → List Id
   members_of Started = []
   members_of (Then calls (Watched members now)) = members
   members_of (Then calls (Ticked now)) = filter (λ id. is_kept (check_of calls id) (behind_of calls id) now) (members_of calls)
+  members_of (Then calls (Disconnected id)) = without_id id (members_of calls)
   members_of (Then calls call) = members_of calls
 
   -- the checks of a follower since it became watched
@@ -158,6 +165,7 @@ after fs (Finished state now) =
 after fs (Answered from good applied now) =
     record fs { watched = map (λ (f : Follower). answered_from f from fs.finished good applied now) fs.watched }
 after fs (Ticked now) = record fs { watched = stayed fs.watched now }
+after fs (Disconnected id) = record fs { watched = others_of fs.watched id }
 
 -- the ids of some followers
 abbrev pub ids_of : List Follower → List Id

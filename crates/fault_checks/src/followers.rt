@@ -1,11 +1,11 @@
 //! The checks of the followers by their leader: which of them fail, and which lag.
 ghost use Rattle.std.specs.Prelude.{◌≡◌, ◌<◌, ◌≤◌, length, map, filter, true, IsTrue, if◌then◌else◌};
 ghost use Rattle.std.specs.List.{list_all};
-ghost use Rattle.voting_config.specs.Ids.{with_id, without_id, most_ids, ascends};
+ghost use Rattle.voting_config.specs.Ids.{has, with_id, without_id, most_ids, ascends};
 ghost use Rattle.fault_checks.specs.declared.followers.Follower.{Follower as FollowerOf};
 ghost use Rattle.fault_checks.specs.Checks.{ticked_at as ticked_at_of};
 ghost use Rattle.fault_checks.specs.Choices.{is_chosen as is_chosen_of};
-ghost use Rattle.fault_checks.specs.Followers.{new_follower as new_follower_of, watched_or_new as watched_or_new_of, fallen_behind as fallen_behind_of, behind_finished as behind_finished_of, behind_after as behind_after_of, answered_from as answered_from_of, is_late as is_late_of, drops_for_checks as drops_for_checks_of, drops_for_lag as drops_for_lag_of, stays as stays_of, stayed, is_asked as is_asked_of, ids_of, to_ask, to_drop_for_checks, to_drop_for_lag, AreApart};
+ghost use Rattle.fault_checks.specs.Followers.{new_follower as new_follower_of, watched_or_new as watched_or_new_of, fallen_behind as fallen_behind_of, behind_finished as behind_finished_of, behind_after as behind_after_of, answered_from as answered_from_of, is_late as is_late_of, drops_for_checks as drops_for_checks_of, drops_for_lag as drops_for_lag_of, stays as stays_of, stayed, others_of as others_of_of, is_asked as is_asked_of, ids_of, to_ask, to_drop_for_checks, to_drop_for_lag, AreApart};
 
 use crate::checking::{self, Check};
 use crate::spans::FOLLOWER_LAG_TIMEOUT_MS;
@@ -82,6 +82,7 @@ impl FollowerChecks {
       Finished,
       Answered,
       Ticked,
+      Disconnected,
       StandsFor,
       after,
     };
@@ -199,6 +200,28 @@ impl FollowerChecks {
         let ask = chosen(self.watched.as_slice(), Choice::Asked, now);
         tick_each(self.watched.as_mut_slice(), now);
         ask
+    }
+
+    /// The connection to a follower has ended: it is watched no more. Nothing changes where it isn't watched.
+    pub fn disconnected(&mut self, id: NodeId)
+        ensures now { self.new ≡ after self.old (Disconnected id) }
+        ensures calls { (calls : Calls) → StandsFor self.old calls → StandsFor self.new (Then calls (Disconnected id)) }
+    {
+        self.watched = others_of(self.watched.as_slice(), id);
+    }
+
+    /// Whether a node is watched.
+    pub fn watches(&self, id: NodeId) -> bool
+        ensures { result ≡ has id (ids_of self.now.watched) }
+    {
+        is_among(self.watched.as_slice(), id)
+    }
+
+    /// Who is watched.
+    pub fn watched(&self) -> NodeSet
+        ensures { result ≡ ids_of self.now.watched }
+    {
+        chosen(self.watched.as_slice(), Choice::All, 0)
     }
 }
 
@@ -437,6 +460,31 @@ fn ticked(watched: &[Follower], now: u64) -> ArrayVec<Follower, MAX_IDS>
     kept
 }
 
+// The followers but one.
+fn others_of(watched: &[Follower], id: NodeId) -> ArrayVec<Follower, MAX_IDS>
+    requires { length watched.now ≤ MAX_IDS }
+    ensures { result.items ≡ others_of_of watched.now id }
+{
+    let mut others = ArrayVec::new();
+    for follower in watched {
+        if follower.id != id {
+            others.push(*follower);
+        }
+    }
+    others
+}
+
+fn is_among(watched: &[Follower], id: NodeId) -> bool
+    ensures { result ≡ has id (ids_of watched.now) }
+{
+    for follower in watched {
+        if follower.id == id {
+            return true;
+        }
+    }
+    false
+}
+
 fn tick_of(watched: &[Follower], now: u64) -> Checked
     requires room { length watched.now ≤ MAX_IDS }
     requires ascending { IsTrue (ascends (ids_of watched.now)) }
@@ -454,6 +502,7 @@ fn tick_of(watched: &[Follower], now: u64) -> Checked
 // Which followers a tick names.
 #[derive(Clone, Copy)]
 enum Choice {
+    All,
     Asked,
     DroppedForChecks,
     DroppedForLag,
@@ -463,6 +512,7 @@ fn is_chosen(choice: Choice, follower: &Follower, now: u64) -> bool
     ensures { result ≡ is_chosen_of choice follower.now now }
 {
     match choice {
+        Choice::All => true,
         Choice::Asked => is_asked(follower, now),
         Choice::DroppedForChecks => drops_for_checks(follower, now),
         Choice::DroppedForLag => drops_for_lag(follower, now),

@@ -1,5 +1,5 @@
 -- What one more call makes of the peers.
-use Rattle.std.proofs.Common.{◌≡◌, Bool, true, false, cond, not, ◌||◌, ◌&&◌, Option, None, Some, List, [], ◌∷◌, ◌++◌, map, length, refl, sym, ap, ◌∙◌}
+use Rattle.std.proofs.Common.{◌≡◌, ℕ, Bool, true, false, cond, not, ◌||◌, ◌&&◌, Option, None, Some, List, [], ◌∷◌, ◌++◌, map, length, refl, sym, ap, ◌∙◌}
 use Rattle.std.specs.Prelude.{filter, nat_le}
 use Rattle.std.proofs.lemmas.Bool.{and_parts, or_parts}
 use Rattle.std.proofs.lemmas.List.{map-append}
@@ -8,7 +8,7 @@ use Rattle.std.specs.Cmp.Lexicographic.{same_text}
 use Rattle.voting_config.specs.Ids.{Id, has, same, without_id}
 use Rattle.voting_config.proofs.Sets.{same_self, same_flipped, has-without_id}
 use Rattle.peer_finder.specs.declared.Peer.{Peer}
-use Rattle.peer_finder.specs.Peers.{PeerFinder, Calls, Call, Started, Then, Added, Asked, Answered, Forgotten, AnswersForgotten, StandsFor, finder_of, after, me_of, known_of, answer_of, peer_of, ids_of, is_new_peer, most_peers, with_answer, without_answer, answer_in}
+use Rattle.peer_finder.specs.Peers.{PeerFinder, Calls, Call, Started, Then, Added, Asked, Answered, Forgotten, AnswersForgotten, Disconnected, Held, StandsFor, finder_of, after, me_of, known_of, answer_of, peer_of, ids_of, is_new_peer, most_peers, with_answer, without_answer, unanswered, answer_in}
 
 not_true : (b : Bool) → not b ≡ true → b ≡ false
 not_true true h = cc
@@ -49,6 +49,12 @@ answer_of-unknown (Then calls (Forgotten x)) id h =
       | false ↦ λ e. answer_of-unknown calls id (has-other id x (known_of calls) e h)
     ] refl
 answer_of-unknown (Then calls (AnswersForgotten now)) id h = refl
+answer_of-unknown (Then calls (Held now wait)) id h = answer_of-unknown calls id h
+answer_of-unknown (Then calls (Disconnected x now)) id h =
+    elim (same id x) as (λ b. cond b None (answer_of calls id) ≡ None) [
+      | true ↦ refl
+      | false ↦ answer_of-unknown calls id h
+    ]
 
 -- two tables of the same ids agree where they agree on each of them
 map-members : {X : Type 0} (f g : Id → X) (ids : List Id) → ((id : Id) → has id ids ≡ true → f id ≡ g id) → map f ids ≡ map g ids
@@ -82,6 +88,13 @@ answered-peers calls x master =
     each : (id : Id) → has id (known_of calls) ≡ true → peer_of (Then calls (Answered x master)) id ≡ with_answer x master (peer_of calls id)
     each id h = rw h (elim (same id x) as (λ b. (let p : Peer = record { id = id; answer = cond (b && true) (Some (record { master = master })) (answer_of calls id) } in p) ≡ cond b (record { id = id; answer = Some (record { master = master }) }) (peer_of calls id)) [ true ↦ refl | false ↦ refl ])
 
+disconnected-peers : (calls : Calls) (x : Id) (now : ℕ) → map (λ id. peer_of (Then calls (Disconnected x now)) id) (known_of calls) ≡ map (λ (p : Peer). unanswered x p) (map (λ id. peer_of calls id) (known_of calls))
+disconnected-peers calls x now =
+    map-members _ _ (known_of calls) each ∙ sym (map-map (λ (p : Peer). unanswered x p) (λ id. peer_of calls id) (known_of calls))
+  where
+    each : (id : Id) → has id (known_of calls) ≡ true → peer_of (Then calls (Disconnected x now)) id ≡ unanswered x (peer_of calls id)
+    each id h = elim (same id x) as (λ b. (let p : Peer = record { id = id; answer = cond b None (answer_of calls id) } in p) ≡ cond b (record { id = id; answer = None }) (peer_of calls id)) [ true ↦ refl | false ↦ refl ]
+
 added-peers : (calls : Calls) (x : Id) → (finder_of (Then calls (Added x))).peers ≡ (after (finder_of calls) (Added x)).peers
 added-peers calls x =
     rw (ids_of-peers calls (known_of calls))
@@ -102,6 +115,9 @@ finder_of-Then calls (Answered x master) = ap (λ (ps : List Peer). record (find
 finder_of-Then calls (Forgotten x) = ap (λ (ps : List Peer). record (finder_of calls) { peers = ps }) (forgotten-peers calls x (known_of calls))
 finder_of-Then calls (AnswersForgotten now) =
     ap (λ (ps : List Peer). record (finder_of calls) { peers = ps; due = now }) (sym (map-map (λ (p : Peer). without_answer p) (λ id. peer_of calls id) (known_of calls)))
+finder_of-Then calls (Held now wait) = refl
+finder_of-Then calls (Disconnected x now) =
+    ap (λ (ps : List Peer). record (finder_of calls) { peers = ps; due = now }) (disconnected-peers calls x now)
 
 -- what stands for the calls so far stands for these with one more
 pub stands-Then : (old new : PeerFinder) (call : Call) → new ≡ after old call → (calls : Calls) → StandsFor old calls → StandsFor new (Then calls call)
@@ -139,3 +155,11 @@ ids_of-with_answer id master (p ∷ ps) =
 pub ids_of-without_answer : (peers : List Peer) → ids_of (map (λ (p : Peer). without_answer p) peers) ≡ ids_of peers
 ids_of-without_answer [] = refl
 ids_of-without_answer (p ∷ ps) = ap (λ t. p.id ∷ t) (ids_of-without_answer ps)
+
+pub ids_of-unanswered : (id : Id) (peers : List Peer) → ids_of (map (λ (p : Peer). unanswered id p) peers) ≡ ids_of peers
+ids_of-unanswered id [] = refl
+ids_of-unanswered id (p ∷ ps) =
+    elim (same p.id id) as (λ b. (cond b (record p { answer = None }) p).id ∷ ids_of (map (λ (q : Peer). unanswered id q) ps) ≡ p.id ∷ ids_of ps) [
+      | true ↦ ap (λ t. p.id ∷ t) (ids_of-unanswered id ps)
+      | false ↦ ap (λ t. p.id ∷ t) (ids_of-unanswered id ps)
+    ]

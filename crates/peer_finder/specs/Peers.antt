@@ -12,6 +12,10 @@ pub data Call : Type 0 where
   Answered : (id : Id) → (master : Option Id) → Call
   Forgotten : (id : Id) → Call
   AnswersForgotten : (now : ℕ) → Call
+  -- the connection to a node ended
+  Disconnected : (id : Id) → (now : ℕ) → Call
+  -- peers are not to be asked for some time
+  Held : (now : ℕ) → (wait : ℕ) → Call
 
 -- the start, and the calls since, the newest last
 pub data Calls : Type 0 where
@@ -41,20 +45,23 @@ known_of (Then calls (Added id)) = if is_new_peer (me_of calls) (known_of calls)
 known_of (Then calls (Forgotten id)) = without_id id (known_of calls)
 known_of (Then calls call) = known_of calls
 
--- the last answer of a peer since it became known, where answers were not forgotten since
+-- the last answer of a peer since it became known, where answers were not forgotten and the connection to it did not end since
 abbrev pub answer_of : Calls → Id → Option Found
 answer_of (Started me) peer = None
 answer_of (Then calls (Answered id master)) peer = if same peer id
     && has peer (known_of calls) then Some (record { master = master }) else answer_of calls peer
 answer_of (Then calls (Forgotten id)) peer = if same peer id then None else answer_of calls peer
 answer_of (Then calls (AnswersForgotten now)) peer = None
+answer_of (Then calls (Disconnected id now)) peer = if same peer id then None else answer_of calls peer
 answer_of (Then calls call) peer = answer_of calls peer
 
--- when discovery is due: an interval after peers were asked last, and at once where answers were forgotten since
+-- when discovery is due: an interval after peers were asked last, and at once where answers were forgotten or a connection ended since, unless it is held
 abbrev pub due_of : Calls → ℕ
 due_of (Started me) = 0
 due_of (Then calls (Asked now)) = now + find_peers_interval
 due_of (Then calls (AnswersForgotten now)) = now
+due_of (Then calls (Disconnected id now)) = now
+due_of (Then calls (Held now wait)) = now + wait
 due_of (Then calls call) = due_of calls
 
 -- all of this
@@ -83,6 +90,9 @@ with_answer id master p = if same p.id id then record p { answer = Some (record 
 abbrev pub without_answer : Peer → Peer
 without_answer p = record p { answer = None }
 
+abbrev pub unanswered : Id → Peer → Peer
+unanswered id p = if same p.id id then without_answer p else p
+
 -- what one more call makes of it
 abbrev pub after : PeerFinder → Call → PeerFinder
 after f (Added id) =
@@ -91,6 +101,8 @@ after f (Asked now) = record f { due = now + find_peers_interval }
 after f (Answered id master) = record f { peers = map (λ (p : Peer). with_answer id master p) f.peers }
 after f (Forgotten id) = record f { peers = filter (λ (p : Peer). not (same p.id id)) f.peers }
 after f (AnswersForgotten now) = record f { peers = map (λ (p : Peer). without_answer p) f.peers; due = now }
+after f (Disconnected id now) = record f { peers = map (λ (p : Peer). unanswered id p) f.peers; due = now }
+after f (Held now wait) = record f { due = now + wait }
 
 -- the answer of a peer among these
 abbrev pub answer_in : List Peer → Id → Option Found

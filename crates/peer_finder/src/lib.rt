@@ -4,7 +4,7 @@
 ghost use Rattle.std.specs.Prelude.{◌≡◌, ◌+◌, ◌<◌, ◌≤◌, length, filter, map, nat_le};
 ghost use Rattle.voting_config.specs.Ids.{set_of};
 ghost use Rattle.peer_finder.specs.declared.Peer.{Peer as PeerOf};
-ghost use Rattle.peer_finder.specs.Peers.{with_answer as with_answer_of, without_answer as without_answer_of, answer_in, ids_of as ids_in, is_free as is_free_of};
+ghost use Rattle.peer_finder.specs.Peers.{with_answer as with_answer_of, without_answer as without_answer_of, unanswered as unanswered_of, answer_in, ids_of as ids_in, is_free as is_free_of};
 ghost use Rattle.peer_finder.specs.Choices.{is_chosen as is_chosen_of};
 
 use arrayvec::ArrayVec;
@@ -66,6 +66,8 @@ impl PeerFinder {
       Answered,
       Forgotten,
       AnswersForgotten,
+      Disconnected,
+      Held,
       StandsFor,
       after,
       known_of,
@@ -136,6 +138,25 @@ impl PeerFinder {
         forget_all(self.peers.as_mut_slice());
         self.since = now;
         self.wait = 0;
+    }
+
+    /// The connection to a node has ended: its answer is forgotten, and discovery is due now, in ms.
+    pub fn disconnected(&mut self, id: NodeId, now: u64)
+        ensures now { self.new ≡ after self.old (Disconnected id now) }
+        ensures calls { (calls : Calls) → StandsFor self.old calls → StandsFor self.new (Then calls (Disconnected id now)) }
+    {
+        forget_one(self.peers.as_mut_slice(), id);
+        self.since = now;
+        self.wait = 0;
+    }
+
+    /// Peers are not to be asked for some time from now, in ms.
+    pub fn hold(&mut self, now: u64, wait: u64)
+        ensures now { self.new ≡ after self.old (Held now wait) }
+        ensures calls { (calls : Calls) → StandsFor self.old calls → StandsFor self.new (Then calls (Held now wait)) }
+    {
+        self.since = now;
+        self.wait = wait;
     }
 
     /// The last answer of a peer since it became known, and None where it has not answered or isn't known.
@@ -259,6 +280,24 @@ fn forget_all(peers: &mut [Peer])
 {
     for peer in peers {
         *peer = without_answer(*peer);
+    }
+}
+
+fn unanswered(peer: Peer, id: NodeId) -> Peer
+    ensures { result ≡ unanswered_of id peer }
+{
+    if peer.id == id {
+        without_answer(peer)
+    } else {
+        peer
+    }
+}
+
+fn forget_one(peers: &mut [Peer], id: NodeId)
+    ensures { peers.new ≡ map (λ (p : PeerOf). unanswered_of id p) peers.old }
+{
+    for peer in peers {
+        *peer = unanswered(*peer, id);
     }
 }
 
