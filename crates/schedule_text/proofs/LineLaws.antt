@@ -14,7 +14,7 @@ use Rattle.schedule_text.specs.declared.schedule.Line.{Line}
 use Rattle.schedule_text.specs.declared.schedule.Line.TheVariants as line
 use Rattle.voting_config.specs.Lists.{parts_of}
 use Rattle.schedule_text.specs.Words.{◌>>=◌, Word, listed}
-use Rattle.schedule_text.specs.Lines.{Args, one_word, two_words, three_words, four_words, one, two, three, four, word_and_rest, any_number, ordinal, most_ordinal, moment, boot, start_join, value, deliver, crash, restart, fuse, fail, tick, client, words_of, line_words, line_text, FitsCore, FitsNode, FitsLine, client_at, shared_verb_at, core_line_at, node_line_at, words_at, line_at}
+use Rattle.schedule_text.specs.Lines.{Args, one_word, two_words, three_words, four_words, one, two, three, four, word_and_rest, any_number, ordinal, most_ordinal, moment, boot, start_join, value, deliver, crash, restart, fuse, fail, tick, disconnect, client, words_of, line_words, line_text, FitsCore, FitsNode, FitsLine, client_at, shared_verb_at, core_line_at, node_line_at, words_at, line_at}
 use Rattle.schedule_text.proofs.WordLaws.{is_plain, IsWord, bind_ok, ok_is, all_weaker, lacks, parts_not_empty, split_first, split_join, join_split, join_all, listed_law, text_law, number_law, list_law}
 use Rattle.schedule_text.proofs.ModeLaws.{mode_law}
 
@@ -173,6 +173,9 @@ module _ {ids : List Id} (good : AreIds ids) where
   tick_law : IsArgs (tick ids)
   tick_law = three_law _ _ _ node_law moment_law any_number_law
 
+  disconnect_law : IsArgs (disconnect ids)
+  disconnect_law = two_law _ _ node_law node_law
+
 abbrev IsLine : Level → List Id → List (List ℕ) → Line → Type 0
 IsLine level ids words l = (join_with_byte 32 words ≡ line_text l) × FitsLine level ids l
 
@@ -245,7 +248,8 @@ module _ {ids : List Id} (good : AreIds ids) (verb : List ℕ) (ws : List (List 
   node_takes : lacks 10 (join_with_byte 32 (verb ∷ ws)) ≡ true → node_line_at ids verb ws ≡ Ok l → IsLine Node ids (verb ∷ ws) l
   node_takes k e =
       chosen Node ids verb (codes "client") ws l _ _ (client_takes good verb ws l k) (λ e1.
-      chosen Node ids verb (codes "tick") ws l _ _ (made (tick ids) (λ x. line.Tick x.0 x.1 x.2) Node ids (codes "tick") (tick_law good) (λ x. refl) (λ x f. f) ws l) (shared_takes Node) e1) e
+      chosen Node ids verb (codes "tick") ws l _ _ (made (tick ids) (λ x. line.Tick x.0 x.1 x.2) Node ids (codes "tick") (tick_law good) (λ x. refl) (λ x f. f) ws l) (λ e2.
+      chosen Node ids verb (codes "disconnect") ws l _ _ (made (disconnect ids) (λ x. line.Disconnect x.0 x.1) Node ids (codes "disconnect") (disconnect_law good) (λ x. refl) (λ x f. f) ws l) (shared_takes Node) e2) e1) e
 
 -- ---- a line
 
@@ -300,6 +304,7 @@ line_again Core {ids} good (line.Fuse n k w) f = by_words Core ids (codes "fuse"
 line_again Core {ids} good (line.Fail n k) f = by_words Core ids (codes "fail") ((fail ids).spelling (n, k)) (line.Fail n k) (and_from _ _ refl ((fail_law good).plain (n, k) f)) (rw ((fail_law good).again (n, k) f) refl)
 line_again Core good (line.Tick n m w) f = absurd f
 line_again Core good (line.Client n r) f = absurd f
+line_again Core good (line.Disconnect n p) f = absurd f
 line_again Node good (line.Boot n) f = absurd f
 line_again Node good (line.StartJoin n c t) f = absurd f
 line_again Node good (line.Value n v x cfg) f = absurd f
@@ -310,6 +315,7 @@ line_again Node {ids} good (line.Fuse n k w) f = by_words Node ids (codes "fuse"
 line_again Node {ids} good (line.Fail n k) f = by_words Node ids (codes "fail") ((fail ids).spelling (n, k)) (line.Fail n k) (and_from _ _ refl ((fail_law good).plain (n, k) f)) (rw ((fail_law good).again (n, k) f) refl)
 line_again Node {ids} good (line.Tick n m w) f = by_words Node ids (codes "tick") ((tick ids).spelling (n, m, w)) (line.Tick n m w) (and_from _ _ refl ((tick_law good).plain (n, m, w) f)) (rw ((tick_law good).again (n, m, w) f) refl)
 line_again Node good (line.Client n r) f = client_again good n r f
+line_again Node {ids} good (line.Disconnect n p) f = by_words Node ids (codes "disconnect") ((disconnect ids).spelling (n, p)) (line.Disconnect n p) (and_from _ _ refl ((disconnect_law good).plain (n, p) f)) (rw ((disconnect_law good).again (n, p) f) refl)
 
 pub line_lacks : (level : Level) {ids : List Id} → AreIds ids → (l : Line) → FitsLine level ids l → lacks 10 (line_text l) ≡ true
 line_lacks Core {ids} good (line.Boot n) f = one_piece (codes "boot" ∷ (boot ids).spelling n) (and_from _ _ refl ((boot_law good).plain n f))
@@ -322,6 +328,7 @@ line_lacks Core {ids} good (line.Fuse n k w) f = one_piece (codes "fuse" ∷ (fu
 line_lacks Core {ids} good (line.Fail n k) f = one_piece (codes "fail" ∷ (fail ids).spelling (n, k)) (and_from _ _ refl ((fail_law good).plain (n, k) f))
 line_lacks Core good (line.Tick n m w) f = absurd f
 line_lacks Core good (line.Client n r) f = absurd f
+line_lacks Core good (line.Disconnect n p) f = absurd f
 line_lacks Node good (line.Boot n) f = absurd f
 line_lacks Node good (line.StartJoin n c t) f = absurd f
 line_lacks Node good (line.Value n v x cfg) f = absurd f
@@ -332,3 +339,4 @@ line_lacks Node {ids} good (line.Fuse n k w) f = one_piece (codes "fuse" ∷ (fu
 line_lacks Node {ids} good (line.Fail n k) f = one_piece (codes "fail" ∷ (fail ids).spelling (n, k)) (and_from _ _ refl ((fail_law good).plain (n, k) f))
 line_lacks Node {ids} good (line.Tick n m w) f = one_piece (codes "tick" ∷ (tick ids).spelling (n, m, w)) (and_from _ _ refl ((tick_law good).plain (n, m, w) f))
 line_lacks Node good (line.Client n r) f = client_lacks good n r f
+line_lacks Node {ids} good (line.Disconnect n p) f = one_piece (codes "disconnect" ∷ (disconnect ids).spelling (n, p)) (and_from _ _ refl ((disconnect_law good).plain (n, p) f))

@@ -131,6 +131,9 @@ fail ids = two (listed ids) ordinal
 abbrev pub tick : List Id → Args (Id × ℕ × ℕ)
 tick ids = three (listed ids) moment any_number
 
+abbrev pub disconnect : List Id → Args (Id × Id)
+disconnect ids = two (listed ids) (listed ids)
+
 abbrev pub client : List Id → Args (Id × List ℕ)
 client ids = with_rest (listed ids)
 
@@ -152,6 +155,7 @@ line_words (line.Fuse n k w) = codes "fuse" ∷ n ∷ ordinal.spelling k ∷ mod
 line_words (line.Fail n k) = codes "fail" ∷ n ∷ ordinal.spelling k ∷ []
 line_words (line.Tick n m w) = codes "tick" ∷ n ∷ moment.spelling m ∷ any_number.spelling w ∷ []
 line_words (line.Client n r) = codes "client" ∷ n ∷ r ∷ []
+line_words (line.Disconnect n p) = codes "disconnect" ∷ n ∷ p ∷ []
 
 -- a line as it is written
 abbrev pub line_text : Line → List ℕ
@@ -169,6 +173,7 @@ FitsCore ids (line.Fuse n k w) = (fuse ids).Fits (n, k, w)
 FitsCore ids (line.Fail n k) = (fail ids).Fits (n, k)
 FitsCore ids (line.Tick n m w) = ⊥
 FitsCore ids (line.Client n r) = ⊥
+FitsCore ids (line.Disconnect n p) = ⊥
 
 abbrev pub FitsNode : List Id → Line → Type 0
 FitsNode ids (line.Boot n) = ⊥
@@ -181,6 +186,7 @@ FitsNode ids (line.Fuse n k w) = (fuse ids).Fits (n, k, w)
 FitsNode ids (line.Fail n k) = (fail ids).Fits (n, k)
 FitsNode ids (line.Tick n m w) = (tick ids).Fits (n, m, w)
 FitsNode ids (line.Client n r) = (client ids).Fits (n, r)
+FitsNode ids (line.Disconnect n p) = (disconnect ids).Fits (n, p)
 
 abbrev pub FitsLine : Level → List Id → Line → Type 0
 FitsLine Core ids l = FitsCore ids l
@@ -214,6 +220,9 @@ fail_at ids ws = (fail ids).at ws >>= λ x. Ok (line.Fail x.0 x.1)
 abbrev pub tick_at : List Id → List (List ℕ) → Result Line WhyBad
 tick_at ids ws = (tick ids).at ws >>= λ x. Ok (line.Tick x.0 x.1 x.2)
 
+abbrev pub disconnect_at : List Id → List (List ℕ) → Result Line WhyBad
+disconnect_at ids ws = (disconnect ids).at ws >>= λ x. Ok (line.Disconnect x.0 x.1)
+
 abbrev pub client_at : List Id → List (List ℕ) → Result Line WhyBad
 client_at ids ws = (client ids).at ws >>= λ x. Ok (line.Client x.0 x.1)
 
@@ -242,7 +251,10 @@ core_line_at ids verb ws = if bytes_eq verb (codes "value") then value_at ids ws
 
 -- a line of level node by its verb; the line `client` has bytes of its own, and stands first
 abbrev pub node_verb_at : List Id → List ℕ → List (List ℕ) → Result Line WhyBad
-node_verb_at ids verb ws = if bytes_eq verb (codes "tick") then tick_at ids ws else shared_verb_at ids verb ws
+node_verb_at ids verb ws =
+    if bytes_eq verb (codes "tick") then tick_at ids ws
+    else (if bytes_eq verb (codes "disconnect") then disconnect_at ids ws
+    else shared_verb_at ids verb ws)
 
 abbrev pub node_line_at : List Id → List ℕ → List (List ℕ) → Result Line WhyBad
 node_line_at ids verb ws = if bytes_eq verb (codes "client") then client_at ids ws else node_verb_at ids verb ws

@@ -5,6 +5,6 @@
 pub enum Level {
     /// The coordination cores of the nodes: lines `boot`, `startjoin` and `value`.
     Core,
-    /// The nodes with their policy: lines `tick` and `client`.
+    /// The nodes with their policy: lines `tick`, `client` and `disconnect`.
     Node,
 }

@@ -3,7 +3,7 @@ ghost use Rattle.std.specs.Prelude.{◌≡◌, ◌==◌, MatchOption, Option, []
 ghost use Rattle.std.specs.List.{list_all};
 ghost use Rattle.std.specs.Str.{bytes_eq};
 ghost use Rattle.voting_config.specs.Lists.{parts_in, space};
-ghost use Rattle.schedule_text.specs.Lines.{one_word as one_word_of, two_words as two_words_of, three_words as three_words_of, four_words as four_words_of, word_and_rest as word_and_rest_of, boot_at, start_join_at, value_at, deliver_at, crash_at, restart_at, fuse_at, fail_at, tick_at, client_at, stop_verb_at, core_line_at, node_line_at, line_at, words_of};
+ghost use Rattle.schedule_text.specs.Lines.{one_word as one_word_of, two_words as two_words_of, three_words as three_words_of, four_words as four_words_of, word_and_rest as word_and_rest_of, boot_at, start_join_at, value_at, deliver_at, crash_at, restart_at, fuse_at, fail_at, tick_at, disconnect_at, client_at, stop_verb_at, core_line_at, node_line_at, line_at, words_of};
 ghost use Rattle.schedule_text.specs.Answers.{Gives, Answers};
 
 use crate::fault::{ReadError, WhyBad};
@@ -166,6 +166,18 @@ fn tick(ids: &NodeSet, rest: Option<&[u8]>) -> Result<Line, ReadError<WhyBad>>
     Ok(Line::Tick(node, now, word))
 }
 
+fn disconnect(alloc: Global, ids: &NodeSet, rest: Option<&[u8]>) -> Result<Line, ReadError<WhyBad>>
+    ensures { Answers result (disconnect_at ids.now (parts_in space rest.entry)) }
+{
+    let (node, peer) = two_words(rest)?;
+    let node = node_at(ids, node)?;
+    let peer = node_at(ids, peer)?;
+    let Ok(peer) = Boxed::of(alloc, peer) else {
+        return Err(ReadError::Memory);
+    };
+    Ok(Line::Disconnect(node, peer))
+}
+
 // The first word after a verb, and all that follows the space after it, further spaces included.
 fn word_and_rest(rest: Option<&[u8]>) -> Result<(&[u8], &[u8]), WhyBad>
     ensures { Gives (λ w. (w.0.now, w.1.now)) result (word_and_rest_of (parts_in space rest.entry)) }
@@ -271,6 +283,9 @@ fn node_line(alloc: Global, ids: &NodeSet, line: &[u8]) -> Result<Line, ReadErro
     }
     if let Some(rest) = after_verb(line, b"tick") {
         return tick(ids, rest);
+    }
+    if let Some(rest) = after_verb(line, b"disconnect") {
+        return disconnect(alloc, ids, rest);
     }
     stop_verb_line(ids, line)
 }

@@ -9,7 +9,7 @@ use voting_config::{IdList, NodeId, NodeSet};
 use zen_disk::Way;
 
 /// A line of a schedule after its header. The first id is the node that acts. `Boot`, `StartJoin` and `Value` stand at
-/// level core alone, `Tick` and `Client` at level node alone.
+/// level core alone, `Tick`, `Client` and `Disconnect` at level node alone.
 #[derive(Drop)]
 pub enum Line {
     /// The node takes the initial configuration.
@@ -33,6 +33,8 @@ pub enum Line {
     Tick(NodeId, u64, u64),
     /// A client's line reaches the node.
     Client(NodeId, LineBytes),
+    /// The connection of the node to another has ended.
+    Disconnect(NodeId, Boxed<NodeId>),
 }
 
 /// The lines of a schedule, seen as a list.

@@ -60,6 +60,7 @@ pub fn write_line(text: &mut Text, line: &Line) -> Result<(), AllocError>
             text.number_and(*now, b' ')?;
             text.number(*word)
         }
+        Line::Disconnect(node, peer) => write_disconnect(text, node, peer),
         Line::Client(node, line) => {
             text.word("client ")?;
             text.id_and(node, b' ')?;
@@ -96,6 +97,14 @@ fn write_start_join(
     text.id_and(node, b' ')?;
     text.id_and(&candidate.get(), b' ')?;
     text.number(term)
+}
+
+fn write_disconnect(text: &mut Text, node: &NodeId, peer: &Boxed<NodeId>) -> Result<(), AllocError>
+    ensures { OnOk result (text.new ≡ text.old ++ line_text (Line.Disconnect node.now peer.now)) }
+{
+    text.word("disconnect ")?;
+    text.id_and(node, b' ')?;
+    text.lent_id(&peer.get())
 }
 
 fn write_value(

@@ -74,6 +74,7 @@ const CORE_LINES: &[(&str, WhyBad)] = &[
     ("voting-only a\n", WhyBad::Verb),
     ("tick a 0 0\n", WhyBad::Verb),
     ("client a x\n", WhyBad::Verb),
+    ("disconnect a a\n", WhyBad::Verb),
     ("deliver a\n", WhyBad::Arity),
     ("deliver z x\n", WhyBad::Id),
     ("deliver a 01\n", WhyBad::Number),
@@ -144,6 +145,13 @@ const NODE_LINES: &[(&str, WhyBad)] = &[
     ("client  a\n", WhyBad::Id),
     ("client z \n", WhyBad::Id),
     ("client a x", WhyBad::NoNewline),
+    ("disconnect\n", WhyBad::Arity),
+    ("disconnect a\n", WhyBad::Arity),
+    ("disconnect a a a\n", WhyBad::Arity),
+    ("disconnect z a\n", WhyBad::Id),
+    ("disconnect a z\n", WhyBad::Id),
+    ("disconnect a \n", WhyBad::Id),
+    ("disconnect a a", WhyBad::NoNewline),
     ("deliver a\n", WhyBad::Arity),
     ("deliver a 0\n", WhyBad::Number),
     ("crash a most\n", WhyBad::Mode),
@@ -308,6 +316,8 @@ const PRINTED: &[(&str, Level, &[u8])] = &[
           client a \n\
           client b  get  x \n\
           client a \xff\x00\x80\n\
+          disconnect a b\n\
+          disconnect b b\n\
           deliver a 1\n\
           crash a torn:09\n\
           restart a\n\

@@ -1,9 +1,9 @@
-use Rattle.std.proofs.Common.{◌≡◌, ◌∙◌, [], ◌∷◌, sym, ap, subst, Result, Ok, Err}
+use Rattle.std.proofs.Common.{◌≡◌, ◌∙◌, [], ◌∷◌, sym, ap, subst, Result}
 use Rattle.voting_config.specs.Ids.{Id}
 use Rattle.std.specs.Prelude.{List}
 use Rattle.voting_config.specs.Lists.{parts_of, parts_in}
 use Rattle.schedule_text.specs.Answers.{Answers}
-use Rattle.schedule_text.specs.Reading.{after_line, third_line_at, with_lines_at, ◌>>>◌}
+use Rattle.schedule_text.specs.Reading.{after_line, with_lines_at, ◌>>>◌}
 use Rattle.schedule_text.specs.declared.fault.BadSchedule.{BadSchedule}
 use Rattle.schedule_text.specs.declared.schedule.Schedule.{Schedule}
 use Rattle.schedule_text.proofs.ScheduleLaws.{tail_is_last, tail_is_plain, tail_is_third}
