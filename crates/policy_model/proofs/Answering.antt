@@ -27,7 +27,7 @@ use Rattle.master_tasks.specs.NextState.{next_answers, is_nothing_new}
 use Rattle.world_model.specs.declared.acts.Act.{Act}
 use Rattle.world_model.specs.declared.acts.Act.TheVariants.{Bootstrap, StartJoin, TakeJoin, Publish, Response, Commit}
 use Rattle.policy_model.specs.declared.settings.Settings.{Settings}
-use Rattle.policy_model.specs.Events.{Mode, Candidate, Leader, Follower, Event, Start, Tick, FrameCame, LineCame, DropCause, Item, Notes, LeaderChecked, StateMade}
+use Rattle.policy_model.specs.Events.{Mode, Candidate, Leader, Follower, Event, Start, Tick, FrameCame, LineCame, PeerGone, DropCause, Item, Notes, LeaderChecked, StateMade}
 use Rattle.policy_model.specs.Parts.{as_master}
 use Rattle.policy_model.specs.Views.{View}
 use Rattle.policy_model.specs.Moves.{moved, moved_all}
@@ -40,6 +40,7 @@ use Rattle.policy_model.specs.Publications as publications
 use Rattle.policy_model.specs.Checks as checks
 use Rattle.policy_model.specs.Requests as requests
 use Rattle.policy_model.specs.Rules as rules
+use Rattle.policy_model.specs.Disconnects as disconnects
 use Rattle.policy_model.specs.Local.{IsAnswered, IsQuiet, Silent, Also, Ended, ByAct, ByQuiet}
 use Rattle.policy_model.proofs.Sweeps.{moved_all-replies}
 
@@ -306,9 +307,20 @@ module _ (s : Settings) where
   answered-frame : (v : View) (f : Frame) → IsAnswered s v (rules.takes_frame s v f)
   answered-frame v f = answered-if v (same f.to s.me) _ _ (answered-message v f.from f.message) (Ended v)
 
+  -- a connection that has ended
+  answered-loses : (v : View) (p : Id) (m : Mode) → IsAnswered s v (disconnects.loses s v p m)
+  answered-loses v p Candidate = answered-quiet v _ (quiet-if _ _ _ (Also _ _ refl Silent) Silent)
+  answered-loses v p Leader =
+      answered-if v _ _ _
+      (answered-then v _ (disconnects.goes_on_with_rest s) (answered-quiet v _ (Also _ _ refl (Also _ _ refl Silent)))
+      (λ u. answered-if u (disconnects.keeps_quorum s u) _ _ (answered-goes_on u) (answered-quiet u _ (quiet-becomes_candidate u))))
+      (Ended v)
+  answered-loses v p (Follower leader) = answered-if v (same leader p) _ _ (answered-quiet v _ (quiet-append _ _ (quiet-becomes_candidate v) (Also _ _ refl Silent))) (Ended v)
+
   -- an event
   pub answered-next : (v : View) (e : Event) → IsAnswered s v (rules.next_of s v e)
   answered-next v Start = ByQuiet _ _ _ refl (ByQuiet _ _ _ refl (Ended _))
   answered-next v (Tick now word) = answered-ticks v word v.mode
   answered-next v (FrameCame frame) = answered-frame v frame
   answered-next v (LineCame conn line) = answered-takes_line v conn (line_request line)
+  answered-next v (PeerGone peer) = answered-loses v peer v.mode

@@ -4,7 +4,8 @@ use Rattle.std.specs.Prelude.{if◌then◌else◌, max, is_some, nat_le, nat_lt,
 use Rattle.std.specs.List.{flat_map, AllByRecursion}
 use Rattle.std.proofs.lemmas.Bool.Decides.{nat_tests}
 use Rattle.cluster_state.specs.Field.{last_number}
-use Rattle.voting_config.specs.Ids.{Id, before, same, same_config, is_quorum_of, has_room}
+use Rattle.fault_checks.specs.Followers.{ids_of}
+use Rattle.voting_config.specs.Ids.{Id, has, before, same, same_config, is_quorum_of, has_room}
 use Rattle.bootstrap.specs.Decisions.{decision_of}
 use Rattle.election_clock.specs.Delays.{is_due}
 use Rattle.peer_finder.specs.Peers.{answered_set}
@@ -58,9 +59,10 @@ use Rattle.world_model.specs.Acts.{is_effective}
 use Rattle.world_model.specs.NodeState.{NodeState}
 use Rattle.world_model.specs.Replies.{reply_at, is_taken, after_check, start_checked, start_reply, value_reply, publish_reply}
 use Rattle.policy_model.specs.declared.settings.Settings.{Settings}
-use Rattle.policy_model.specs.Events.{Mode, Candidate, Leader, Follower, Event, Start, Tick, FrameCame, LineCame, DropCause, Note, Met, Heard, PeersAsked, ElectionOff, ElectionSet, RoundBegun, RoundAnswered, RoundEnded, Joined, FollowersChecked, FollowerAnswered, LeaderChecked, LeaderAnswered, Queued, ExclusionsTimedOut, CommitAcked, ExclusionsAcked, StateMade, HandedOver, Item, Opens, Begins, Acts, ChangesMode, Drops, Sends, Replies, Notes}
+use Rattle.policy_model.specs.Events.{Mode, Candidate, Leader, Follower, Event, Start, Tick, FrameCame, LineCame, PeerGone, DropCause, Note, Met, Heard, PeersAsked, ElectionOff, ElectionSet, RoundBegun, RoundAnswered, RoundEnded, Joined, FollowersChecked, FollowerAnswered, LeaderChecked, LeaderAnswered, Queued, ExclusionsTimedOut, CommitAcked, ExclusionsAcked, StateMade, HandedOver, PeerLost, LeaderLost, Item, Opens, Begins, Acts, ChangesMode, Drops, Sends, Replies, Notes}
 use Rattle.policy_model.specs.Entries.{frames_in, put_frame, by_receiver}
 use Rattle.policy_model.specs.Parts.{as_master, all_to_be_added, round_answered, published_id}
+use Rattle.policy_model.specs.LookBacks.{yields}
 use Rattle.policy_model.specs.Views.{View}
 use Rattle.policy_model.specs.Moves.{opened, moved, moved_all}
 use Rattle.policy_model.specs.Doing as doing
@@ -72,6 +74,7 @@ use Rattle.policy_model.specs.Publications as publications
 use Rattle.policy_model.specs.Checks as checks
 use Rattle.policy_model.specs.Requests as requests
 use Rattle.policy_model.specs.Rules as rules
+use Rattle.policy_model.specs.Disconnects as disconnects
 use Rattle.policy_model.specs.Fitting.{IsFitRound, AreFit, IsFitView, IsFitKept, IsFitEvent, HoldsSettings, EventHoldsSettings, StaysFit}
 use Rattle.policy_model.proofs.Sweeps.{moved_all-append, moved_all-replies}
 
@@ -150,6 +153,8 @@ module _ (s : Settings) where
   note-fits v ExclusionsAcked f e = with_waiting v.node v.applied v.round v.tasks.waiting _ f (good_left (exclusion_done v.node.committed (id_of v.node.accepted)) v.tasks.waiting f.good)
   note-fits v StateMade f e = with_waiting v.node v.applied v.round v.tasks.waiting _ f (good_after (as_master s v.node) v.tasks f.good)
   note-fits v HandedOver f e = f
+  note-fits v (PeerLost id) f e = f
+  note-fits v (LeaderLost rank) f e = f
 
   item-fits : (v : View) (i : Item) → IsFitView v → FitItem i → IsFitView (moved s v i)
   item-fits v (ChangesMode Candidate term) f e = record { term = f.term; accepted = f.accepted; older = f.older; settings = f.settings; applied_id = f.applied_id; terms = tt; good = tt }
@@ -255,6 +260,10 @@ initial-fits config = record { term = omega arith; version = omega arith; parent
 pub no_settings : IsSettings []
 no_settings = record { ascending = refl; texts = refl }
 
+none-fits : (b : Bool) (r : Option Round) → IsFitRound r → IsFitRound (cond b None r)
+none-fits true r f = tt
+none-fits false r f = f
+
 id-fits : (x : ClusterState) → IsFit x → IsFitId (id_of x)
 id-fits x f = record { term = f.term; version = f.version }
 
@@ -279,7 +288,7 @@ module _ (s : Settings) where
     older = older-term _ v.node.accepted.term term v.node.term f.older;
     settings = f.settings;
     applied_id = f.applied_id;
-    terms = f.terms;
+    terms = none-fits (yields s v.election_rank candidate (Answered (reply_at s.me v.node (StartJoin candidate term)))) v.round f.terms;
     good = f.good;
   }
   act-fits v (TakeJoin join) f e = record { term = f.term; accepted = f.accepted; older = f.older; settings = f.settings; applied_id = f.applied_id; terms = f.terms; good = f.good }
@@ -627,11 +636,21 @@ module _ (s : Settings) where
   fit-message v p (message.LeaderCheck term) f e h = fit-sound v _ f (Also _ _ tt Silent)
   fit-message v p (message.LeaderAnswer good) f e h = fit-sound v _ f (sound-answered_by_leader v p good)
 
+  fit-loses : (v : View) (p : Id) (m : Mode) → IsFitView v → Fit v (disconnects.loses s v p m)
+  fit-loses v p Candidate f = fit-sound v _ f (sound-if _ _ _ (Also _ _ tt Silent) Silent)
+  fit-loses v p Leader f =
+      fit-if v (has p (ids_of v.followers.watched)) _ _
+      (λ e. fit-then v (disconnects.drops_follower s p) (disconnects.goes_on_with_rest s) (fit-sound v _ f (Also _ _ tt (Also _ _ tt Silent)))
+      (λ u g. fit-if u (disconnects.keeps_quorum s u) _ _ (λ k. fit-goes_on u g) (fit-sound u _ g (sound-becomes_candidate u))))
+      (fit-none v f)
+  fit-loses v p (Follower leader) f = fit-if v (same leader p) _ _ (λ e. fit-sound v _ f (sound-append _ _ (sound-becomes_candidate v) (Also _ _ tt Silent))) (fit-none v f)
+
   fit-next : (v : View) (event : Event) → IsFitView v → IsFitEvent event → EventHoldsSettings event → Fit v (rules.next_of s v event)
   fit-next v Start f e h = fit-sound v _ f (Also _ _ tt (Also _ _ tt Silent))
   fit-next v (Tick now word) f e h = fit-ticks v word v.mode f
   fit-next v (FrameCame frame) f e h = fit-if v (same frame.to s.me) _ _ (λ b. fit-message v frame.from frame.message f e h) (fit-none v f)
   fit-next v (LineCame conn line) f e h = fit-line v conn (line_request line) f
+  fit-next v (PeerGone peer) f e h = fit-loses v peer v.mode f
 
   -- ---- frames by receiver
 

@@ -53,7 +53,7 @@ use Rattle.world_model.specs.declared.acts.Act.{Act}
 use Rattle.world_model.specs.declared.acts.Act.TheVariants.{Bootstrap, StartJoin, TakeJoin, Value, Publish, Response, Commit, Open}
 use Rattle.voting_config.proofs.Sets.{same_self, length-with_id-le, length-set_of}
 use Rattle.policy_model.specs.declared.settings.Settings.{Settings}
-use Rattle.policy_model.specs.Events.{Mode, Candidate, Leader, Follower, Event, Start, Tick, FrameCame, LineCame, DropCause, Checks, Lag, Note, Met, Heard, PeersAsked, ElectionOff, ElectionSet, RoundBegun, RoundAnswered, RoundEnded, Joined, FollowersChecked, FollowerAnswered, LeaderChecked, LeaderAnswered, Queued, ExclusionsTimedOut, CommitAcked, ExclusionsAcked, StateMade, HandedOver, Item, Opens, Begins, Acts, ChangesMode, Drops, Sends, Replies, Notes}
+use Rattle.policy_model.specs.Events.{Mode, Candidate, Leader, Follower, Event, Start, Tick, FrameCame, LineCame, PeerGone, DropCause, Checks, Lag, Note, Met, Heard, PeersAsked, ElectionOff, ElectionSet, RoundBegun, RoundAnswered, RoundEnded, Joined, FollowersChecked, FollowerAnswered, LeaderChecked, LeaderAnswered, Queued, ExclusionsTimedOut, CommitAcked, ExclusionsAcked, StateMade, HandedOver, PeerLost, LeaderLost, Item, Opens, Begins, Acts, ChangesMode, Drops, Sends, Replies, Notes}
 use Rattle.policy_model.specs.Entries.{frames_in, put_frame, by_receiver}
 use Rattle.policy_model.specs.Parts.{as_master, met, published_at, responded, after_response, finished, watched, state_finished}
 use Rattle.policy_model.specs.Views.{View}
@@ -67,6 +67,7 @@ use Rattle.policy_model.specs.Publications as publications
 use Rattle.policy_model.specs.Checks as checks
 use Rattle.policy_model.specs.Requests as requests
 use Rattle.policy_model.specs.Rules as rules
+use Rattle.policy_model.specs.Disconnects as disconnects
 use Rattle.policy_model.specs.Bounds.{IsSmallView, HoldsSet, EventHoldsSet, SendsFew, most_frames}
 use Rattle.policy_model.proofs.Sweeps.{moved_all-append, moved_all-replies, moved_all-sends, frames-append, frames-replies, frames-sends}
 
@@ -284,6 +285,10 @@ module _ (s : Settings) where
   note-small v ExclusionsAcked f = f
   note-small v StateMade f = f
   note-small v HandedOver f = f
+  note-small v (LeaderLost rank) f = record { members = f.members; peers = f.peers; watched = f.watched; targets = f.targets; responders = f.responders }
+  note-small v (PeerLost id) f =
+      let rest = fewer (λ (x : FollowerState). not (same x.id id)) v.followers.watched in
+      record { members = f.members; peers = rw (length-map v.finder.peers _) f.peers; watched = omega (arith, f.watched, rest); targets = f.targets; responders = f.responders }
 
   item-small : (v : View) (i : Item) → is_mild i ≡ true → IsSmallView v → IsSmallView (moved s v i)
   item-small v (ChangesMode Candidate term) e f = record { members = f.members; peers = rw (length-map v.finder.peers _) f.peers; watched = omega arith; targets = omega arith; responders = omega arith }
@@ -677,11 +682,22 @@ module _ (s : Settings) where
   few-message v p (message.LeaderCheck term) f h = few-more 1 65 v _ (omega arith) (few-send 0 v _ _ f (λ g. few-none v g))
   few-message v p (message.LeaderAnswer good) f h = few-more 0 65 v _ (omega arith) (few-note v (doing.follows_node v.mode p) (LeaderAnswered good) f)
 
+  few-loses : (v : View) (p : Id) (m : Mode) → IsSmallView v → Few 64 v (disconnects.loses s v p m)
+  few-loses v p Candidate f = few-more 0 64 v _ (omega arith) (few-note v _ (PeerLost p) f)
+  few-loses v p Leader f =
+      let after : View = moved_all s v (disconnects.drops_follower s p) in
+      few-if 64 v _ _ _
+      (few-item 64 v _ _ refl f (λ g. few-item 64 _ _ _ refl g
+      (λ h. few-if 64 after (disconnects.keeps_quorum s after) _ _ (few-goes_on after h) (few-more 0 64 _ _ (omega arith) (few-becomes_candidate after h)))))
+      (none-within 64 v f)
+  few-loses v p (Follower leader) f = few-if 64 v (same leader p) _ _ (few-more 0 64 v _ (omega arith) (few-append 0 0 v _ _ (few-becomes_candidate v f) (λ g. few-item 0 _ _ _ refl g (λ h. few-none _ h)))) (none-within 64 v f)
+
   few-event : (v : View) (event : Event) → IsSmallView v → EventHoldsSet event → Few (most_frames event) v (rules.next_of s v event)
   few-event v Start f h = few-item 0 v _ _ refl f (λ g. few-item 0 _ _ _ refl g (λ k. few-none _ k))
   few-event v (Tick now word) f h = few-ticks v word v.mode f
   few-event v (FrameCame frame) f h = few-if 65 v (same frame.to s.me) _ _ (few-message v frame.from frame.message f h) (none-within 65 v f)
   few-event v (LineCame conn line) f h = few-line v conn (line_request line) f
+  few-event v (PeerGone peer) f h = few-loses v peer v.mode f
 
 -- ---- frames by receiver
 

@@ -12,12 +12,12 @@ use Rattle.publication.specs.Publications as publication
 use Rattle.fault_checks.specs.Followers as followers
 use Rattle.fault_checks.proofs.Standing.{followers_of-Then}
 use Rattle.fault_checks.specs.Leaders as leaders
-use Rattle.world_model.specs.declared.acts.Act.TheVariants.{Value, Response, Commit}
+use Rattle.world_model.specs.declared.acts.Act.TheVariants.{StartJoin, Value, Response, Commit}
 use Rattle.world_model.specs.Acts.{is_ok}
 use Rattle.policy_model.specs.declared.settings.Settings.{Settings}
-use Rattle.policy_model.specs.Events.{Candidate, Leader, Follower, Log, NoItems, And, Opens, Acts, ChangesMode, Notes, Met, Heard, PeersAsked, RoundBegun, RoundAnswered, RoundEnded, FollowersChecked, FollowerAnswered, LeaderChecked, LeaderAnswered}
-use Rattle.policy_model.specs.Parts.{met, round_answered, responded, finished, state_finished, leader_ticked, leader_answered}
-use Rattle.policy_model.specs.LookBacks.{node_of, moment_of, sends_one, finder_of, round_of, publication_of, followers_of, leader_check_of}
+use Rattle.policy_model.specs.Events.{Candidate, Leader, Follower, Log, NoItems, And, Opens, Acts, ChangesMode, Notes, Met, Heard, PeersAsked, RoundBegun, RoundAnswered, RoundEnded, FollowersChecked, FollowerAnswered, LeaderChecked, LeaderAnswered, PeerLost, LeaderLost}
+use Rattle.policy_model.specs.Parts.{loss_grace, met, round_answered, responded, finished, state_finished, leader_ticked, leader_answered}
+use Rattle.policy_model.specs.LookBacks.{node_of, moment_of, sends_one, yields, election_rank_of, finder_of, round_of, publication_of, followers_of, leader_check_of}
 use Rattle.policy_model.specs.PartCalls.{with_added, finder_calls, round_calls, with_response, publication_calls, is_open, follower_calls, leader_calls}
 
 -- The peer finder.
@@ -35,6 +35,8 @@ finder_looks_back s (And l (Opens found)) = refl
 finder_looks_back s (And l (Notes (Met ids))) = met-all (finder_of s l) (finder_calls s l) ids (finder_looks_back s l)
 finder_looks_back s (And l (Notes (Heard peer master))) = told (finder_of s l) (finder_calls s l) (finder.Answered peer master) (finder_looks_back s l)
 finder_looks_back s (And l (Notes PeersAsked)) = told (finder_of s l) (finder_calls s l) (finder.Asked (moment_of l)) (finder_looks_back s l)
+finder_looks_back s (And l (Notes (LeaderLost rank))) = told (finder_of s l) (finder_calls s l) (finder.Held (moment_of l) loss_grace) (finder_looks_back s l)
+finder_looks_back s (And l (Notes (PeerLost id))) = told (finder_of s l) (finder_calls s l) (finder.Disconnected id (moment_of l)) (finder_looks_back s l)
 finder_looks_back s (And l (ChangesMode Candidate term)) = told (finder_of s l) (finder_calls s l) (finder.AnswersForgotten (moment_of l)) (finder_looks_back s l)
 finder_looks_back s (And l i) = finder_looks_back s l
 
@@ -44,6 +46,10 @@ answered-one : (calls : Option pre_vote.Calls) (source : Id) (term : ℕ) (last 
 answered-one None source term last = refl
 answered-one (Some calls) source term last = refl
 
+none-or : (b : Bool) (r : Option Round) (c : Option pre_vote.Calls) → r ≡ option_map round_by c → cond b None r ≡ option_map round_by (cond b None c)
+none-or true r c e = refl
+none-or false r c e = e
+
 pub round_looks_back : (s : Settings) (l : Log) → round_of s l ≡ option_map round_by (round_calls s l)
 round_looks_back s NoItems = refl
 round_looks_back s (And l (Opens found)) = refl
@@ -51,6 +57,7 @@ round_looks_back s (And l (Notes (RoundBegun word))) = refl
 round_looks_back s (And l (Notes (RoundAnswered source term last))) =
     ap (λ (r : Option Round). round_answered r source term last) (round_looks_back s l) ∙ answered-one (round_calls s l) source term last
 round_looks_back s (And l (Notes RoundEnded)) = refl
+round_looks_back s (And l (Acts (StartJoin candidate term) o)) = none-or (yields s (election_rank_of s l) candidate o) _ _ (round_looks_back s l)
 round_looks_back s (And l (ChangesMode Candidate term)) = refl
 round_looks_back s (And l i) = round_looks_back s l
 
@@ -117,6 +124,7 @@ followers_look_back s (And l (Acts (Commit commit) o)) =
 followers_look_back s (And l (Notes FollowersChecked)) = follower-told (followers_of s l) (follower_calls s l) (followers.Ticked (moment_of l)) (followers_look_back s l)
 followers_look_back s (And l (Notes (FollowerAnswered from good applied))) =
     follower-told (followers_of s l) (follower_calls s l) (followers.Answered from good applied (moment_of l)) (followers_look_back s l)
+followers_look_back s (And l (Notes (PeerLost id))) = follower-told (followers_of s l) (follower_calls s l) (followers.Disconnected id) (followers_look_back s l)
 followers_look_back s (And l (ChangesMode Candidate term)) = refl
 followers_look_back s (And l i) = followers_look_back s l
 

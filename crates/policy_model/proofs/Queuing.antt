@@ -7,7 +7,7 @@ use Rattle.master_tasks.specs.declared.waiting.Waiting.{Waiting}
 use Rattle.master_tasks.specs.declared.waiting.Outgoing.{Outgoing}
 use Rattle.master_tasks.specs.Queue.{arriving}
 use Rattle.policy_model.specs.declared.settings.Settings.{Settings}
-use Rattle.policy_model.specs.Events.{Mode, Candidate, Leader, Follower, Event, Start, Tick, FrameCame, LineCame, Begins, Note, Met, Heard, PeersAsked, ElectionOff, ElectionSet, RoundBegun, RoundAnswered, RoundEnded, Joined, FollowersChecked, FollowerAnswered, LeaderChecked, LeaderAnswered, Queued, ExclusionsTimedOut, CommitAcked, ExclusionsAcked, StateMade, HandedOver, Item, Opens, Acts, ChangesMode, Drops, Sends, Replies, Notes, Log, And, added}
+use Rattle.policy_model.specs.Events.{Mode, Candidate, Leader, Follower, Event, Start, Tick, FrameCame, LineCame, PeerGone, Begins, Note, Met, Heard, PeersAsked, ElectionOff, ElectionSet, RoundBegun, RoundAnswered, RoundEnded, Joined, FollowersChecked, FollowerAnswered, LeaderChecked, LeaderAnswered, Queued, ExclusionsTimedOut, CommitAcked, ExclusionsAcked, StateMade, HandedOver, PeerLost, LeaderLost, Item, Opens, Acts, ChangesMode, Drops, Sends, Replies, Notes, Log, And, added}
 use Rattle.policy_model.specs.Entries.{Did, Life, NotBegun, Opened, Lived, log_of}
 use Rattle.policy_model.specs.LookBacks.{mode_of, moment_of, tasks_of}
 use Rattle.policy_model.specs.Views.{View, view_of}
@@ -102,6 +102,7 @@ aside-idle s v (Begins Start) h idle = idle
 aside-idle s v (Begins (Tick now word)) h idle = idle
 aside-idle s v (Begins (FrameCame frame)) h idle = idle
 aside-idle s v (Begins (LineCame conn line)) h idle = idle
+aside-idle s v (Begins (PeerGone peer)) h idle = idle
 aside-idle s v (Acts (Bootstrap config) o) h idle = idle
 aside-idle s v (Acts (StartJoin candidate term) o) h idle = idle
 aside-idle s v (Acts (TakeJoin join) o) h idle = idle
@@ -144,6 +145,8 @@ note-mode s v CommitAcked = refl
 note-mode s v ExclusionsAcked = refl
 note-mode s v StateMade = refl
 note-mode s v HandedOver = refl
+note-mode s v (PeerLost id) = refl
+note-mode s v (LeaderLost rank) = refl
 
 -- the queue, and that only a leader has one
 record Stands (s : Settings) (l : Log) (v : View) : Type 0 where

@@ -33,7 +33,7 @@ use Rattle.world_model.specs.declared.acts.Act.{Act}
 use Rattle.world_model.specs.Moves.{is_opening}
 use Rattle.world_model.specs.declared.acts.Act.TheVariants.{StartJoin, TakeJoin, Publish, Response, Commit}
 use Rattle.policy_model.specs.declared.settings.Settings.{Settings}
-use Rattle.policy_model.specs.Events.{Mode, Candidate, Leader, Follower, Event, Start, Tick, FrameCame, LineCame, DropCause, Note, Item, Opens, Acts, ChangesMode, Replies, Notes, LeaderChecked, Queued, ExclusionsTimedOut, CommitAcked, ExclusionsAcked, StateMade}
+use Rattle.policy_model.specs.Events.{Mode, Candidate, Leader, Follower, Event, Start, Tick, FrameCame, LineCame, PeerGone, DropCause, Note, Item, Opens, Acts, ChangesMode, Replies, Notes, LeaderChecked, Queued, ExclusionsTimedOut, CommitAcked, ExclusionsAcked, StateMade}
 use Rattle.policy_model.specs.Parts.{as_master, published_id}
 use Rattle.policy_model.specs.Views.{View}
 use Rattle.policy_model.specs.Moves.{moved, moved_all}
@@ -46,6 +46,7 @@ use Rattle.policy_model.specs.Publications as publications
 use Rattle.policy_model.specs.Checks as checks
 use Rattle.policy_model.specs.Requests as requests
 use Rattle.policy_model.specs.Rules as rules
+use Rattle.policy_model.specs.Disconnects as disconnects
 use Rattle.policy_model.specs.Queues.{answers_line}
 use Rattle.policy_model.proofs.Sweeps.{moved_all-append, moved_all-replies, moved_all-sends}
 use Rattle.policy_model.proofs.Settled.{IsStep, step-none, failed-step, next-step, committed-step, done-step, timed_out-step}
@@ -381,9 +382,20 @@ module _ (s : Settings) where
   served-message v p (message.LeaderCheck term) = Aside _ _ _ refl (Ended _)
   served-message v p (message.LeaderAnswer good) = served-if v (doing.follows_node v.mode p) _ _ (Aside _ _ _ refl (Ended _)) (Ended v)
 
+  -- a connection that has ended
+  served-loses : (v : View) (p : Id) (m : Mode) → IsServed s v (disconnects.loses s v p m)
+  served-loses v p Candidate = served-if v _ _ _ (Aside _ _ _ refl (Ended _)) (Ended v)
+  served-loses v p Leader =
+      let after : View = moved_all s v (disconnects.drops_follower s p) in
+      served-if v _ _ _
+      (Aside _ _ _ refl (Aside _ _ _ refl (served-if after (disconnects.keeps_quorum s after) _ _ (served-goes_on after) (served-becomes_candidate after))))
+      (Ended v)
+  served-loses v p (Follower leader) = served-if v (same leader p) _ _ (served-append v _ _ (served-becomes_candidate v) (Aside _ _ _ refl (Ended _))) (Ended v)
+
   -- an event
   pub served-next : (v : View) (e : Event) → IsServed s v (rules.next_of s v e)
   served-next v Start = Aside _ _ _ refl (Aside _ _ _ refl (Ended _))
   served-next v (Tick now word) = served-ticks v word v.mode
   served-next v (FrameCame f) = served-if v (same f.to s.me) _ _ (served-message v f.from f.message) (Ended v)
   served-next v (LineCame conn line) = served-takes_line v conn (line_request line)
+  served-next v (PeerGone peer) = served-loses v peer v.mode

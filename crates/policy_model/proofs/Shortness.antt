@@ -29,7 +29,7 @@ use Rattle.world_model.specs.declared.acts.Act.{Act}
 use Rattle.world_model.specs.declared.acts.Act.TheVariants.{Bootstrap, StartJoin, TakeJoin, Publish, Response, Commit}
 use Rattle.world_model.specs.declared.acts.Outcome.{Outcome}
 use Rattle.policy_model.specs.declared.settings.Settings.{Settings}
-use Rattle.policy_model.specs.Events.{Mode, Candidate, Leader, Follower, Event, Start, Tick, FrameCame, LineCame, DropCause, Met, Heard, Joined, LeaderChecked, Queued, StateMade, Item, Opens, Begins, Acts, ChangesMode, Drops, Sends, Replies, Notes}
+use Rattle.policy_model.specs.Events.{Mode, Candidate, Leader, Follower, Event, Start, Tick, FrameCame, LineCame, PeerGone, DropCause, Met, Heard, Joined, LeaderChecked, Queued, StateMade, Item, Opens, Begins, Acts, ChangesMode, Drops, Sends, Replies, Notes}
 use Rattle.policy_model.specs.Entries.{deeds_of}
 use Rattle.policy_model.specs.Parts.{as_master}
 use Rattle.policy_model.specs.Views.{View}
@@ -44,6 +44,7 @@ use Rattle.policy_model.specs.Publications as publications
 use Rattle.policy_model.specs.Checks as checks
 use Rattle.policy_model.specs.Requests as requests
 use Rattle.policy_model.specs.Rules as rules
+use Rattle.policy_model.specs.Disconnects as disconnects
 use Rattle.policy_model.specs.Bounds.{count_acts, IsShort}
 use Rattle.policy_model.proofs.Sweeps.{deeds-append}
 
@@ -375,11 +376,21 @@ module _ (s : Settings) where
   most-message v p (message.LeaderCheck term) = most-quiet 3 6 _ (Also _ _ refl Silent)
   most-message v p (message.LeaderAnswer good) = most-quiet 3 6 _ (silent-if (doing.follows_node v.mode p) _ _ (Also _ _ refl Silent) Silent)
 
+  most-loses : (v : View) (p : Id) (m : Mode) → AtMost 1 2 (disconnects.loses s v p m)
+  most-loses v p Candidate = most-quiet 1 2 _ (silent-if _ _ _ (Also _ _ refl Silent) Silent)
+  most-loses v p Leader =
+      most-if 1 2 _ _ _
+      (most-then 0 0 1 2 v _ (disconnects.goes_on_with_rest s) (most-quiet 0 0 _ (Also _ _ refl (Also _ _ refl Silent)))
+      (λ u. most-if 1 2 (disconnects.keeps_quorum s u) _ _ (most-goes_on u) (most-more 0 1 1 2 _ (most-becomes_candidate u) (omega arith) (omega arith))))
+      (most-none 1 2)
+  most-loses v p (Follower leader) = most-if 1 2 (same leader p) _ _ (most-more 0 1 1 2 _ (most-append 0 1 0 0 _ _ (most-becomes_candidate v) (most-quiet 0 0 _ (Also _ _ refl Silent))) (omega arith) (omega arith)) (most-none 1 2)
+
   most-next : (v : View) (event : Event) → AtMost 3 6 (rules.next_of s v event)
   most-next v Start = most-quiet 3 6 _ (Also _ _ refl (Also _ _ refl Silent))
   most-next v (Tick now word) = most-ticks v word v.mode
   most-next v (FrameCame frame) = most-if 3 6 (same frame.to s.me) _ _ (most-message v frame.from frame.message) (most-none 3 6)
   most-next v (LineCame conn line) = most-more 1 2 3 6 _ (most-line v conn (line_request line)) (omega arith) (omega arith)
+  most-next v (PeerGone peer) = most-more 1 2 3 6 _ (most-loses v peer v.mode) (omega arith) (omega arith)
 
 -- ---- events that do not come to their end
 

@@ -39,7 +39,7 @@ use Rattle.master_tasks.specs.declared.waiting.Waiting.{Waiting}
 use Rattle.master_tasks.specs.Answering.{answers_by, left_by, failed, timed_out, committed_in, exclusion_done}
 use Rattle.master_tasks.specs.Queue.{Tasks, most_open, is_full_of, arriving, to_be_added}
 use Rattle.master_tasks.proofs.Counting.{counted, counted_next}
-use Rattle.policy_model.specs.Events.{Mode, Candidate, Leader, Follower, Event, Start, Tick, FrameCame, LineCame, DropCause, Note, Met, Heard, PeersAsked, ElectionOff, ElectionSet, RoundBegun, RoundAnswered, RoundEnded, Joined, FollowersChecked, FollowerAnswered, LeaderChecked, LeaderAnswered, Queued, ExclusionsTimedOut, CommitAcked, ExclusionsAcked, StateMade, HandedOver, Item, Opens, Begins, Acts, ChangesMode, Drops, Sends, Replies, Notes}
+use Rattle.policy_model.specs.Events.{Mode, Candidate, Leader, Follower, Event, Start, Tick, FrameCame, LineCame, PeerGone, DropCause, Note, Met, Heard, PeersAsked, ElectionOff, ElectionSet, RoundBegun, RoundAnswered, RoundEnded, Joined, FollowersChecked, FollowerAnswered, LeaderChecked, LeaderAnswered, Queued, ExclusionsTimedOut, CommitAcked, ExclusionsAcked, StateMade, HandedOver, PeerLost, LeaderLost, Item, Opens, Begins, Acts, ChangesMode, Drops, Sends, Replies, Notes}
 use Rattle.policy_model.specs.Entries.{replies_of}
 use Rattle.policy_model.specs.Parts.{as_master, all_to_be_added, published_id}
 use Rattle.policy_model.specs.Views.{View}
@@ -53,6 +53,7 @@ use Rattle.policy_model.specs.Publications as publications
 use Rattle.policy_model.specs.Checks as checks
 use Rattle.policy_model.specs.Requests as requests
 use Rattle.policy_model.specs.Rules as rules
+use Rattle.policy_model.specs.Disconnects as disconnects
 use Rattle.policy_model.specs.Bounds.{AnswersFew}
 use Rattle.policy_model.proofs.Sweeps.{moved_all-append, moved_all-replies, moved_all-sends, replies-append, replies-replies}
 
@@ -113,6 +114,8 @@ module _ (s : Settings) where
   note-calm v ExclusionsAcked e = fewer (exclusion_done v.node.committed (id_of v.node.accepted)) v.tasks.waiting
   note-calm v StateMade e = let all = counted_next (as_master s v.node) v.tasks in omega (arith, all)
   note-calm v HandedOver e = omega arith
+  note-calm v (PeerLost id) e = omega arith
+  note-calm v (LeaderLost rank) e = omega arith
 
   act-calm : (v : View) (act : Act) (o : Outcome) → open_in (moved s v (Acts act o)) ≤ open_in v
   act-calm v (Bootstrap config) o = omega arith
@@ -445,6 +448,15 @@ module _ (s : Settings) where
   spends-message v p (message.LeaderCheck term) = spends-calm v _ (Also _ _ refl Silent)
   spends-message v p (message.LeaderAnswer good) = spends-calm v _ (calm-if (doing.follows_node v.mode p) _ _ (Also _ _ refl Silent) Silent)
 
+  spends-loses : (v : View) (p : Id) (m : Mode) → Spends s v (disconnects.loses s v p m)
+  spends-loses v p Candidate = spends-calm v _ (calm-if _ _ _ (Also _ _ refl Silent) Silent)
+  spends-loses v p Leader =
+      spends-if v _ _ _
+      (spends-then v _ (disconnects.goes_on_with_rest s) (spends-calm v _ (Also _ _ refl (Also _ _ refl Silent)))
+      (λ u. spends-if u (disconnects.keeps_quorum s u) _ _ (spends-goes_on u) (spends-becomes_candidate u)))
+      (spends-none v)
+  spends-loses v p (Follower leader) = spends-if v (same leader p) _ _ (spends-append v _ _ (spends-becomes_candidate v) (spends-calm _ _ (Also _ _ refl Silent))) (spends-none v)
+
   -- ---- events
 
   few-spent : (v : View) (is : List Item) → open_in v ≤ most_open → Spends s v is → AnswersFew s v is
@@ -483,3 +495,4 @@ module _ (s : Settings) where
   answers_few v (Tick now word) h = few-spent v _ h (spends-ticks v word v.mode)
   answers_few v (FrameCame frame) h = few-spent v _ h (spends-if v (same frame.to s.me) _ _ (spends-message v frame.from frame.message) (spends-none v))
   answers_few v (LineCame conn line) h = few-line v conn (line_request line) h
+  answers_few v (PeerGone peer) h = few-spent v _ h (spends-loses v peer v.mode)

@@ -1,5 +1,5 @@
 -- Without voting-only nodes the rules are those of a policy that knows none.
-use Rattle.std.proofs.Common.{◌≡◌, ◌&&◌, not, Bool, Option, List, [], ◌∷◌, ap}
+use Rattle.std.proofs.Common.{◌&&◌, not, List, [], ◌∷◌, ap}
 use Rattle.std.specs.Prelude.{find, if◌then◌else◌}
 use Rattle.voting_config.specs.Ids.{Id, has}
 use Rattle.world_model.specs.Replies.{elects}

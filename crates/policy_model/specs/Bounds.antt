@@ -10,7 +10,7 @@ use Rattle.fault_checks.specs.Followers.{Followers}
 use Rattle.master_tasks.specs.Queue.{most_open}
 use Rattle.world_model.specs.NodeState.{NodeState}
 use Rattle.policy_model.specs.declared.settings.Settings.{Settings}
-use Rattle.policy_model.specs.Events.{Event, Start, Tick, FrameCame, LineCame, Item, Acts}
+use Rattle.policy_model.specs.Events.{Event, Start, Tick, FrameCame, LineCame, PeerGone, Item, Acts}
 use Rattle.policy_model.specs.Entries.{deeds_of, frames_of, replies_of}
 use Rattle.policy_model.specs.Views.{View}
 use Rattle.policy_model.specs.Moves.{opened, moved_all}
@@ -66,6 +66,7 @@ EventHoldsSet Start = Unit {0}
 EventHoldsSet (Tick now word) = Unit {0}
 EventHoldsSet (FrameCame frame) = HoldsSet frame.message
 EventHoldsSet (LineCame conn line) = Unit {0}
+EventHoldsSet (PeerGone peer) = Unit {0}
 
 -- How many frames an event sends at most. At a tick: a candidate that is a quorum alone asks 63 peers for peers and 63 for a pre-vote, and
 -- starts 64 joins. A join by which the term rises and that wins: one more than a state goes to.
@@ -74,6 +75,7 @@ most_frames Start = 0
 most_frames (Tick now word) = 190
 most_frames (FrameCame frame) = 65
 most_frames (LineCame conn line) = 64
+most_frames (PeerGone peer) = 64
 
 -- few frames, and a node that stays small
 pub record SendsFew (s : Settings) (v : View) (event : Event) (items : List Item) : Type 0 where

@@ -15,9 +15,9 @@ use Rattle.world_model.specs.Acts.{NodeHistory, NoActs, Then}
 pub use Rattle.policy_model.specs.declared.events.Mode.{Mode}
 pub use Rattle.policy_model.specs.declared.events.Mode.TheVariants.{Candidate, Leader, Follower}
 pub use Rattle.policy_model.specs.declared.events.Event.{Event}
-pub use Rattle.policy_model.specs.declared.events.Event.TheVariants.{Start, Tick, Frame as FrameCame, Client as LineCame}
+pub use Rattle.policy_model.specs.declared.events.Event.TheVariants.{Start, Tick, Frame as FrameCame, Client as LineCame, Disconnected as PeerGone}
 pub use Rattle.policy_model.specs.declared.events.DropCause.{DropCause}
-pub use Rattle.policy_model.specs.declared.events.DropCause.TheVariants.{Checks, Lag}
+pub use Rattle.policy_model.specs.declared.events.DropCause.TheVariants.{Checks, Lag, Disconnect}
 
 -- That a rule ran, and on what. It is not shown: what it stands for follows from the rest.
 pub data Note : Type 0 where
@@ -47,6 +47,10 @@ pub data Note : Type 0 where
   -- the next state was made of all that was queued
   StateMade : Note
   HandedOver : Note
+  -- the connection to a node ended: its answer is forgotten, peers are to be asked at once, and it is watched no more
+  PeerLost : (id : Id) → Note
+  -- the connection to the leader ended: this is the node's place in line for an election, and peers are asked a little later
+  LeaderLost : (rank : ℕ) → Note
 
 pub data Item : Type 0 where
   -- the journal was opened, and held this record

@@ -15,7 +15,7 @@ use Rattle.master_tasks.specs.declared.waiting.Waiting.{Waiting}
 use Rattle.master_tasks.specs.Fitting.{HaveGoodSettings}
 use Rattle.world_model.specs.NodeState.{NodeState}
 use Rattle.policy_model.specs.declared.settings.Settings.{Settings}
-use Rattle.policy_model.specs.Events.{Event, Start, Tick, FrameCame, LineCame, Item}
+use Rattle.policy_model.specs.Events.{Event, Start, Tick, FrameCame, LineCame, PeerGone, Item}
 use Rattle.policy_model.specs.Entries.{frames_of}
 use Rattle.policy_model.specs.Views.{View}
 use Rattle.policy_model.specs.Moves.{opened, moved_all}
@@ -52,6 +52,7 @@ IsFitEvent Start = Unit {0}
 IsFitEvent (Tick now word) = Unit {0}
 IsFitEvent (FrameCame frame) = IsFitFrame frame
 IsFitEvent (LineCame conn line) = Unit {0}
+IsFitEvent (PeerGone peer) = Unit {0}
 
 -- a published state holds settings, as each state in memory does
 abbrev pub HoldsSettings : WireMessage → Type 0
@@ -63,6 +64,7 @@ EventHoldsSettings Start = Unit {0}
 EventHoldsSettings (Tick now word) = Unit {0}
 EventHoldsSettings (FrameCame frame) = HoldsSettings frame.message
 EventHoldsSettings (LineCame conn line) = Unit {0}
+EventHoldsSettings (PeerGone peer) = Unit {0}
 
 -- what a node that was v sends by these items, and what it is after them
 pub record StaysFit (s : Settings) (v : View) (items : List Item) : Type 0 where

@@ -12,6 +12,7 @@ pub mod Joins
 pub mod Publications
 pub mod Checks
 pub mod Requests
+pub mod Disconnects
 pub mod Rules
 pub mod Follows
 pub mod Struck

@@ -8,13 +8,14 @@ use Rattle.pre_vote.specs.Calls as pre_vote
 use Rattle.publication.specs.Publications as publication
 use Rattle.fault_checks.specs.Followers as followers
 use Rattle.fault_checks.specs.Leaders as leaders
-use Rattle.world_model.specs.declared.acts.Act.TheVariants.{Value, Response, Commit}
+use Rattle.world_model.specs.declared.acts.Act.TheVariants.{StartJoin, Value, Response, Commit}
 use Rattle.world_model.specs.Acts.{is_ok}
 use Rattle.policy_model.specs.declared.settings.Settings.{Settings}
-use Rattle.policy_model.specs.Events.{Candidate, Follower, Log, NoItems, And, Opens, Acts, ChangesMode, Notes, Met, Heard, PeersAsked, RoundBegun, RoundAnswered, RoundEnded, FollowersChecked, FollowerAnswered, LeaderChecked, LeaderAnswered}
-use Rattle.policy_model.specs.LookBacks.{node_of, moment_of, sends_one}
+use Rattle.policy_model.specs.Events.{Candidate, Follower, Log, NoItems, And, Opens, Acts, ChangesMode, Notes, Met, Heard, PeersAsked, RoundBegun, RoundAnswered, RoundEnded, FollowersChecked, FollowerAnswered, LeaderChecked, LeaderAnswered, PeerLost, LeaderLost}
+use Rattle.policy_model.specs.Parts.{loss_grace}
+use Rattle.policy_model.specs.LookBacks.{node_of, moment_of, sends_one, yields, election_rank_of}
 
--- of the peer finder, since the opening: who was met, who answered, when peers were asked, when the node became a candidate
+-- of the peer finder, since the opening: who was met, who answered, when peers were asked, when a connection ended, when the node became a candidate
 abbrev pub with_added : finder.Calls → List Id → finder.Calls
 with_added calls [] = calls
 with_added calls (id ∷ ids) = with_added (finder.Then calls (finder.Added id)) ids
@@ -25,10 +26,12 @@ finder_calls s (And l (Opens found)) = finder.Started s.me
 finder_calls s (And l (Notes (Met ids))) = with_added (finder_calls s l) ids
 finder_calls s (And l (Notes (Heard peer master))) = finder.Then (finder_calls s l) (finder.Answered peer master)
 finder_calls s (And l (Notes PeersAsked)) = finder.Then (finder_calls s l) (finder.Asked (moment_of l))
+finder_calls s (And l (Notes (PeerLost id))) = finder.Then (finder_calls s l) (finder.Disconnected id (moment_of l))
+finder_calls s (And l (Notes (LeaderLost rank))) = finder.Then (finder_calls s l) (finder.Held (moment_of l) loss_grace)
 finder_calls s (And l (ChangesMode Candidate term)) = finder.Then (finder_calls s l) (finder.AnswersForgotten (moment_of l))
 finder_calls s (And l i) = finder_calls s l
 
--- of the round of pre-votes that began last, unless it ended
+-- of the round of pre-votes that began last, unless it ended, or the node waits anew
 abbrev pub round_calls : Settings → Log → Option pre_vote.Calls
 round_calls s NoItems = None
 round_calls s (And l (Opens found)) = None
@@ -36,6 +39,7 @@ round_calls s (And l (Notes (RoundBegun word))) = Some (pre_vote.Start s.me (id_
 round_calls s (And l (Notes (RoundAnswered source term last))) =
     option_map (λ calls. pre_vote.Add calls source term last) (round_calls s l)
 round_calls s (And l (Notes RoundEnded)) = None
+round_calls s (And l (Acts (StartJoin candidate term) o)) = if yields s (election_rank_of s l) candidate o then None else round_calls s l
 round_calls s (And l (ChangesMode Candidate term)) = None
 round_calls s (And l i) = round_calls s l
 
@@ -64,7 +68,7 @@ is_open None = false
 is_open (Some calls) = not (publication.was_finished calls)
 
 -- of the checks of the followers, since the node became leader: the other members of each value, when its publication was finished,
--- ticks and answers
+-- ticks, answers, and connections that ended
 abbrev pub follower_calls : Settings → Log → followers.Calls
 follower_calls s NoItems = followers.Started
 follower_calls s (And l (Opens found)) = followers.Started
@@ -78,6 +82,7 @@ follower_calls s (And l (Acts (Commit commit) o)) =
 follower_calls s (And l (Notes FollowersChecked)) = followers.Then (follower_calls s l) (followers.Ticked (moment_of l))
 follower_calls s (And l (Notes (FollowerAnswered from good applied))) =
     followers.Then (follower_calls s l) (followers.Answered from good applied (moment_of l))
+follower_calls s (And l (Notes (PeerLost id))) = followers.Then (follower_calls s l) (followers.Disconnected id)
 follower_calls s (And l (ChangesMode Candidate term)) = followers.Started
 follower_calls s (And l i) = follower_calls s l
 

@@ -1,15 +1,15 @@
 -- Part of the statement: what is made of the parts of a node, in the words of each part.
-use Rattle.std.specs.Prelude.{ℕ, ◌+◌, ◌^◌, min, Bool, Option, None, Some, List, [], ◌∷◌, if◌then◌else◌}
+use Rattle.std.specs.Prelude.{ℕ, ◌+◌, ◌-◌, ◌*◌, ◌^◌, min, Bool, Option, None, Some, List, [], ◌∷◌, if◌then◌else◌}
 use Rattle.voting_config.specs.Ids.{Id, without_id}
 use Rattle.cluster_state.specs.declared.state.StateId.{StateId}
 use Rattle.cluster_state.specs.declared.request.Request.{Request}
 use Rattle.world_model.specs.NodeState.{NodeState}
 use Rattle.cluster_state.specs.States.{id_of}
 use Rattle.election_clock.specs.Delays.{delay_of}
-use Rattle.peer_finder.specs.Peers.{PeerFinder, finder_of, after as finder_after, Started as FinderStarted, Added, Asked, Answered as PeerAnswered, AnswersForgotten}
+use Rattle.peer_finder.specs.Peers.{PeerFinder, finder_of, after as finder_after, Started as FinderStarted, Added, Asked, Answered as PeerAnswered, AnswersForgotten, Disconnected as PeerDisconnected, Held}
 use Rattle.pre_vote.specs.Rounds.{Round, started, answered}
 use Rattle.publication.specs.Publications.{Publication, publication_of, after as publication_after, Started as PublicationStarted, Responded, CommitSent, Finished as PublicationFinished}
-use Rattle.fault_checks.specs.Followers.{Followers, followers_of, after as followers_after, Started as FollowersStarted, Watched, Finished as StateFinished, Answered as FollowerAnswered, Ticked}
+use Rattle.fault_checks.specs.Followers.{Followers, followers_of, after as followers_after, Started as FollowersStarted, Watched, Finished as StateFinished, Answered as FollowerAnswered, Ticked, Disconnected as FollowerDisconnected}
 use Rattle.fault_checks.specs.Leaders.{LeaderCheck, leader_check_of, after_leader, LeaderStarted, LeaderAnswered, LeaderTicked}
 use Rattle.master_tasks.specs.Queue.{Tasks, arriving, offered, to_be_added}
 use Rattle.master_tasks.specs.NextState.{Leader as NextMaster, leader_of as next_master}
@@ -32,6 +32,10 @@ most_attempts = 99
 abbrev pub handover_interval : ℕ
 handover_interval = 1000
 
+-- how long after it has lost its leader a node asks its peers, in ms: the others are to have lost it too
+abbrev pub loss_grace : ℕ
+loss_grace = 50
+
 -- the peers of a node that has met nobody
 abbrev pub no_peers : Id → PeerFinder
 no_peers me = finder_of (FinderStarted me)
@@ -49,6 +53,13 @@ heard f peer master = finder_after f (PeerAnswered peer master)
 abbrev pub answers_forgotten : PeerFinder → ℕ → PeerFinder
 answers_forgotten f now = finder_after f (AnswersForgotten now)
 
+abbrev pub peer_lost : PeerFinder → Id → ℕ → PeerFinder
+peer_lost f id now = finder_after f (PeerDisconnected id now)
+
+-- peers are asked once the others have lost the leader too
+abbrev pub search_held : PeerFinder → ℕ → PeerFinder
+search_held f now = finder_after f (Held now loss_grace)
+
 -- the attempt after this one
 abbrev pub next_attempt : ℕ → ℕ
 next_attempt attempt = min (attempt + 1) most_attempts
@@ -56,6 +67,11 @@ next_attempt attempt = min (attempt + 1) most_attempts
 -- the first deadline of an election, and one after an attempt has begun
 abbrev pub first_deadline : ℕ → ℕ → ℕ
 first_deadline now word = now + delay_of 0 word
+
+-- Nodes lose their leader at one moment. So that they don't all stand for election at once, each has a place in line, counted from 1, and
+-- leaves those before it the time of theirs. Place 0 is no place: such a node waits for nobody, as the first one does.
+abbrev pub ranked_deadline : ℕ → ℕ → ℕ → ℕ
+ranked_deadline now word rank = first_deadline now word + election_duration * (rank - 1)
 
 abbrev pub next_deadline : ℕ → ℕ → ℕ → ℕ
 next_deadline now attempt word = now + delay_of attempt word + election_duration
@@ -104,6 +120,9 @@ followers_ticked fs now = followers_after fs (Ticked now)
 
 abbrev pub follower_answered : Followers → Id → Bool → StateId → ℕ → Followers
 follower_answered fs from good applied now = followers_after fs (FollowerAnswered from good applied now)
+
+abbrev pub follower_lost : Followers → Id → Followers
+follower_lost fs id = followers_after fs (FollowerDisconnected id)
 
 -- a follower checks its leader, from now on
 abbrev pub check_from : Mode → ℕ → Option LeaderCheck

@@ -9,7 +9,7 @@ use Rattle.publication.specs.declared.Stage.{Stage}
 use Rattle.publication.specs.declared.Stage.TheVariants.{Running, Failed, Done}
 use Rattle.publication.specs.Publications.{Publication, stage_of}
 use Rattle.policy_model.specs.declared.settings.Settings.{Settings}
-use Rattle.policy_model.specs.Events.{Mode, Candidate, Leader, Follower, Event, Start, Tick, FrameCame, LineCame, Item}
+use Rattle.policy_model.specs.Events.{Mode, Candidate, Leader, Follower, Event, Start, Tick, FrameCame, LineCame, PeerGone, Item}
 use Rattle.policy_model.specs.Views.{View}
 use Rattle.policy_model.specs.Doing.{then_rule, becomes_candidate, on_start_join}
 use Rattle.policy_model.specs.NextState.{goes_on}
@@ -19,6 +19,7 @@ use Rattle.policy_model.specs.Joins.{on_join, on_join_ask}
 use Rattle.policy_model.specs.Publications.{on_publish, on_response, on_commit}
 use Rattle.policy_model.specs.Checks.{checks_followers, checks_leader, on_follower_check, on_leader_check, on_follower_answer, on_leader_answer}
 use Rattle.policy_model.specs.Requests.{times_out_exclusions, takes_line}
+use Rattle.policy_model.specs.Disconnects.{loses}
 
 abbrev pub is_failed : Stage → Bool
 is_failed Running = false
@@ -72,3 +73,4 @@ module _ (s : Settings) where
   next_of v (Tick now word) = ticks v word v.mode
   next_of v (FrameCame frame) = takes_frame v frame
   next_of v (LineCame conn line) = takes_line s v conn (line_request line)
+  next_of v (PeerGone peer) = loses s v peer v.mode

@@ -24,6 +24,8 @@ pub enum Event {
     Frame(BoxedFrame),
     /// A line of a client, by its connection.
     Client { conn: u64, line: Line },
+    /// The connection to a node has ended, and no other one leads to it.
+    Disconnected { peer: NodeId },
 }
 
 /// Why a leader has a member removed.
@@ -33,6 +35,8 @@ pub enum DropCause {
     Checks,
     /// It was behind a finished state for too long.
     Lag,
+    /// The connection to it has ended.
+    Disconnect,
 }
 
 /// A member that is to be removed.
