@@ -87,8 +87,9 @@ const READ: &[(&str, &str, usize, Option<Ending>)] = &[
     (
         "lines_of_whole_nodes_are_read",
         "> tick a 5 7\nmode a follower b 2\ndrop a b lag\nm1 a->* commit 1/1\nreply a {\"id\":1,\"not_master\":\"b\"}\n\
-        > client a \n> crash a torn:a5\ncrashed a\n> restart a\nrecord a 1 0/0 a,b _\n> deliver a 9\nunsent\n",
-        12,
+        > client a \n> crash a torn:a5\ncrashed a\n> restart a\nrecord a 1 0/0 a,b _\n> deliver a 9\nunsent\n\
+        > disconnect a b\nmode a candidate 2\ndrop a b disconnect\n",
+        15,
         None,
     ),
 ];
@@ -148,6 +149,11 @@ const BAD: &[(&str, &str, &str)] = &[
         "bad_lines_are_named",
         "> boot A\n",
         "zen_chart: bad trace at line 1: Id\n",
+    ),
+    (
+        "bad_lines_are_named",
+        "> disconnect a\n",
+        "zen_chart: bad trace at line 1: Arity\n",
     ),
     (
         "bad_lines_are_named",

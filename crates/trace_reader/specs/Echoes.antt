@@ -19,7 +19,11 @@ word_at place line = get_or (parts_of space line) place []
 
 -- the level that has lines of this verb; a verb that both have says the same at both
 abbrev pub level_of : List ℕ → Level
-level_of verb = if bytes_eq verb (codes "tick") then Node else (if bytes_eq verb (codes "client") then Node else Core)
+level_of verb =
+    if bytes_eq verb (codes "tick") then Node
+    else (if bytes_eq verb (codes "client") then Node
+    else (if bytes_eq verb (codes "disconnect") then Node
+    else Core))
 
 -- ids with one more, where the word is an id and there is room for it
 abbrev pub with_word : List ℕ → List Id → List Id
@@ -49,6 +53,7 @@ said_by (line.Fuse n k w) = said.Event n
 said_by (line.Fail n k) = said.Event n
 said_by (line.Tick n m w) = said.Event n
 said_by (line.Client n r) = said.Event n
+said_by (line.Disconnect n p) = said.Event n
 
 -- What is echoed must be a line of the schedules of the nodes that it names.
 abbrev pub echo_at : List ℕ → Result Said WhyBad

@@ -1,6 +1,6 @@
 -- Part of the statement of `zen_chart`: what the line of a result tells, by its words.
-use Rattle.std.specs.Prelude.{ℕ, ◌-◌, ◌==◌, Bool, ◌&&◌, ◌||◌, Option, None, Some, Result, Ok, Err, List, [], ◌∷◌, length, take, drop, get_or, codes, nat_eq, if◌then◌else◌}
-use Rattle.std.specs.List.{starts_with, join_with_byte}
+use Rattle.std.specs.Prelude.{ℕ, ◌-◌, ◌==◌, Bool, ◌||◌, Option, None, Some, Result, Ok, Err, List, [], ◌∷◌, length, take, drop, codes, nat_eq, if◌then◌else◌}
+use Rattle.std.specs.List.{starts_with}
 use Rattle.std.specs.Str.{bytes_eq}
 use Rattle.voting_config.specs.Ids.{Id, is_id}
 use Rattle.schedule_text.specs.declared.fault.WhyBad.{WhyBad}

@@ -17,6 +17,9 @@ fn level_of(verb: &[u8]) -> Level
     if verb == b"client".as_slice() {
         return Level::Node;
     }
+    if verb == b"disconnect".as_slice() {
+        return Level::Node;
+    }
     Level::Core
 }
 
@@ -118,6 +121,7 @@ fn said_by(line: &Line) -> Said
         Line::Fail(node, _) => Said::Event(*node),
         Line::Tick(node, _, _) => Said::Event(*node),
         Line::Client(node, _) => Said::Event(*node),
+        Line::Disconnect(node, _) => Said::Event(*node),
     }
 }
 

@@ -1,5 +1,5 @@
-use Rattle.std.proofs.Common.{◌≡◌, ◌+◌, ◌≤◌, ◌∷◌, [], length}
-use Rattle.voting_config.specs.Lists.{parts_of, parts_in, left_in}
+use Rattle.std.proofs.Common.{◌≡◌, ◌+◌, ◌≤◌, ◌∷◌, length}
+use Rattle.voting_config.specs.Lists.{parts_in, left_in}
 use Rattle.trace_reader.specs.Limits.{most_trace_lines}
 use Rattle.trace_reader.specs.Reading.{lines_at, trace_at}
 use Rattle.trace_reader.proofs.reading.read_trace.Given as goal
