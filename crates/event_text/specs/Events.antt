@@ -7,7 +7,7 @@ use Rattle.client_lines.specs.Replies.{reply_text}
 use Rattle.master_tasks.specs.declared.waiting.Outgoing.{Outgoing}
 use Rattle.wire_frames.specs.declared.frame.Frame.{Frame}
 use Rattle.policy_model.specs.declared.events.DropCause.{DropCause}
-use Rattle.policy_model.specs.declared.events.DropCause.TheVariants.{Checks, Lag}
+use Rattle.policy_model.specs.declared.events.DropCause.TheVariants.{Checks, Lag, Disconnect}
 use Rattle.policy_model.specs.declared.events.MemberDrop.{MemberDrop}
 use Rattle.policy_model.specs.declared.events.Deed.{Deed}
 use Rattle.event_text.specs.Frames.{frames_text}
@@ -16,6 +16,7 @@ use Rattle.event_text.specs.Deeds.{deeds_text}
 abbrev pub cause_text : DropCause → List ℕ
 cause_text Checks = codes "checks"
 cause_text Lag = codes "lag"
+cause_text Disconnect = codes "disconnect"
 
 -- the node queues that this member is removed
 abbrev pub drop_line : Id → MemberDrop → List ℕ

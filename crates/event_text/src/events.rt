@@ -21,6 +21,7 @@ fn write_cause(text: &mut Text, cause: DropCause) -> Result<(), AllocError>
     match cause {
         DropCause::Checks => text.word("checks"),
         DropCause::Lag => text.word("lag"),
+        DropCause::Disconnect => text.word("disconnect"),
     }
 }
 
