@@ -14,4 +14,7 @@ fn the_laws_can_be_called() {
     law_last_run_is_kept();
     law_fault_is_settled();
     law_kill_leaves();
+    law_restarted_lives_assemble();
+    law_restarted_system_is_safe();
+    law_restarted_lost();
 }

@@ -30,6 +30,7 @@ use Rattle.system_laws.specs.Systems.{System, Runs, run_of, history_of, IsDoneOf
 use Rattle.system_laws.specs.Restarts.{IsSettled, IsLeftAmong, IsKilled}
 use Rattle.system_laws.proofs.Done.{AreMeant, event-meant}
 use Rattle.system_laws.proofs.Assembly.{IsAlive, IsRun, sound, node-after}
+use Rattle.system_laws.proofs.Stepping.{legal_rule}
 
 abbrev kept_of : NodeState → Kept
 kept_of p = record { term = p.term; accepted = p.accepted; committed = p.committed }
@@ -177,5 +178,5 @@ kill_leaves initial h l n s life runs up e first found left =
       may = record { settings = s; life = life; runs = runs; up = up; start = first; did = c.did };
       silent = ap by_receiver c.silent;
       unanswered = c.unanswered;
-      kept = c.is_left ∙ ap kept_of (node-after initial h (sound initial h l) n s life runs e c.done c.did);
+      kept = c.is_left ∙ ap kept_of (node-after initial (legal_rule initial) h (sound initial h l) n s life runs e c.done c.did);
     }

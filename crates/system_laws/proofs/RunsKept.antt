@@ -1,5 +1,5 @@
 -- Each run of a system stands among the acts of its node: what was done before it, then its own acts, then what was done after it.
-use Rattle.std.proofs.Common.{◌≡◌, Bool, true, false, not, cond, inl, inr, None, List, [], ◌∷◌, refl, sym, ◌∙◌, ap, subst}
+use Rattle.std.proofs.Common.{◌≡◌, ◌≢◌, Bool, true, false, not, cond, inl, inr, None, List, [], ◌∷◌, refl, sym, ◌∙◌, ap, subst}
 use Rattle.std.proofs.lemmas.Bool.{and_parts}
 use Rattle.voting_config.specs.Ids.{Id, same}
 use Rattle.voting_config.proofs.Sets.{same_is}
@@ -13,6 +13,7 @@ use Rattle.world_model.specs.Acts.{NodeHistory, NoActs, Then, is_opening}
 use Rattle.world_model.specs.NodeState.{durable_of}
 use Rattle.world_model.specs.Histories.{History, Next, node_history, IsPrefix}
 use Rattle.world_model.specs.Local.{then_run, OpensWith}
+use Rattle.world_model.specs.Restarts.{ContinuesFrom}
 use Rattle.world_model.proofs.Moments.{Begins as IsBeginning, begins_self, begins_trans}
 use Rattle.world_model.proofs.Legal.{own_deeds, deeds_begin, prefix_self, prefix_trans}
 use Rattle.policy_model.specs.declared.settings.Settings.{Settings}
@@ -23,13 +24,14 @@ use Rattle.policy_model.specs.Moves.{are_own}
 use Rattle.policy_model.specs.Follows.{Follows, is_struck, is_start, starts_next, items_of}
 use Rattle.system_laws.specs.Messages.{comes_with}
 use Rattle.system_laws.specs.Systems.{System, Nothing, Starts, Lives, Dies, Run, Down, Runs, lives_on, run_of, history_of, then_acts, IsDoneOf, MayLive, MayDie, AreRuns}
+use Rattle.system_laws.specs.RestartedSystems.{AreRunsFrom}
 use Rattle.system_laws.specs.Moments.{IsKilledAfterActs, HadLived, IsKilledIn, WasKilled}
 use Rattle.system_laws.proofs.Done.{event-meant, event-done, done-own}
 use Rattle.system_laws.proofs.Stepping.{others-stay}
 
 -- ---- the acts of a run at the end of those of its node
 
-own-acts : (h : History) (n : Id) (b : NodeHistory) (l : Log) (is : List Item) → are_own is ≡ true → node_history h n ≡ then_run b (acts_of l) → node_history (then_acts h n is) n ≡ then_run b (acts_of (added l is))
+pub own-acts : (h : History) (n : Id) (b : NodeHistory) (l : Log) (is : List Item) → are_own is ≡ true → node_history h n ≡ then_run b (acts_of l) → node_history (then_acts h n is) n ≡ then_run b (acts_of (added l is))
 own-acts h n b l [] own e = e
 own-acts h n b l (Acts act o ∷ is) own e =
     let parts = and_parts (not (is_opening act)) (are_own is) own in
@@ -46,7 +48,7 @@ opens-then : (k : Kept) (r : NodeHistory) (a : Act) (o : Outcome) → OpensWith 
 opens-then k NoActs a o w = absurd w
 opens-then k (Then r b u) a o w = w
 
-opens-added : (k : Kept) (l : Log) (is : List Item) → OpensWith k (acts_of l) → OpensWith k (acts_of (added l is))
+pub opens-added : (k : Kept) (l : Log) (is : List Item) → OpensWith k (acts_of l) → OpensWith k (acts_of (added l is))
 opens-added k l [] w = w
 opens-added k l (Opens found ∷ is) w = opens-added k (And l (Opens found)) is (opens-then k (acts_of l) (Open found) (Answered (Taken None false)) w)
 opens-added k l (Begins event ∷ is) w = opens-added k (And l (Begins event)) is w
@@ -57,16 +59,40 @@ opens-added k l (Sends frame ∷ is) w = opens-added k (And l (Sends frame)) is 
 opens-added k l (Replies answer ∷ is) w = opens-added k (And l (Replies answer)) is w
 opens-added k l (Notes note ∷ is) w = opens-added k (And l (Notes note)) is w
 
+-- ---- the runs of a system, which begin with what their nodes kept where these did something
+
+abbrev pub AreGoing : System → Type 0
+AreGoing Nothing = Unit {0}
+AreGoing (Starts h s found) = AreGoing h × (node_history (history_of h) s.me ≢ NoActs → found ≡ durable_of (node_history (history_of h) s.me))
+AreGoing (Lives h n entry) = AreGoing h × MayLive h n entry
+AreGoing (Dies h n event items) = AreGoing h × MayDie h n event items
+
+pub going : (initial : List Id) (h : System) → AreRuns initial h → AreGoing h
+going initial Nothing l = tt
+going initial (Starts h s found) l = (going initial h l.0, λ some. l.1.kept)
+going initial (Lives h n entry) l = (going initial h l.0, l.1)
+going initial (Dies h n event items) l = (going initial h l.0, l.1)
+
+continues-found : (first : Id) (kept : Kept) (n : Id) (g : NodeHistory) (found : Kept) → ContinuesFrom first kept n g (Open found) → g ≢ NoActs → found ≡ durable_of g
+continues-found first kept n NoActs found c some = absurd (some refl)
+continues-found first kept n (Then g a o) found c some = c
+
+pub going-from : (first : Id) (kept : Kept) (h : System) → AreRunsFrom first kept h → AreGoing h
+going-from first kept Nothing l = tt
+going-from first kept (Starts h s found) l = (going-from first kept h l.0, continues-found first kept s.me (node_history (history_of h) s.me) found l.1.continues)
+going-from first kept (Lives h n entry) l = (going-from first kept h l.0, l.1)
+going-from first kept (Dies h n event items) l = (going-from first kept h l.0, l.1)
+
 -- ---- the run that a node lives now
 
-record IsNow (g : NodeHistory) (n : Id) (s : Settings) (life : Life) : Type 0 where
-  me : s.me ≡ n
-  follows : Follows s life
-  before : NodeHistory
-  acts : g ≡ then_run before (acts_of (log_of life))
-  opens : OpensWith (durable_of before) (acts_of (log_of life))
+pub record IsNow (g : NodeHistory) (n : Id) (s : Settings) (life : Life) : Type 0 where
+  pub me : s.me ≡ n
+  pub follows : Follows s life
+  pub before : NodeHistory
+  pub acts : g ≡ then_run before (acts_of (log_of life))
+  pub opens : before ≢ NoActs → OpensWith (durable_of before) (acts_of (log_of life))
 
-abbrev IsRunNow : NodeHistory → Id → Run → Type 0
+abbrev pub IsRunNow : NodeHistory → Id → Run → Type 0
 IsRunNow g n Down = Unit {0}
 IsRunNow g n (Runs s life) = IsNow g n s life
 
@@ -80,7 +106,7 @@ now-done h n s life e done items now d follows same_acts = record {
   acts =
       own-acts h n now.before (And (log_of life) (Begins e)) done (done-own s (comes_with e) [] _ _ done (event-meant s life e) d) now.acts
       ∙ ap (λ (r : NodeHistory). then_run now.before r) same_acts;
-  opens = opens-added (durable_of now.before) (And (log_of life) (Begins e)) items now.opens;
+  opens = λ some. opens-added (durable_of now.before) (And (log_of life) (Begins e)) items (now.opens some);
 }
 
 now-idle : (g : NodeHistory) (n : Id) (s : Settings) (life : Life) (entry : Entry) → IsNow g n s life → Follows s (Lived life entry) → log_of (Lived life entry) ≡ log_of life → IsNow g n s (Lived life entry)
@@ -89,7 +115,7 @@ now-idle g n s life entry now follows e = record {
   follows = follows;
   before = now.before;
   acts = now.acts ∙ ap (λ (l : Log). then_run now.before (acts_of l)) (sym e);
-  opens = subst (λ (l : Log). OpensWith (durable_of now.before) (acts_of l)) (sym e) now.opens;
+  opens = λ some. subst (λ (l : Log). OpensWith (durable_of now.before) (acts_of l)) (sym e) (now.opens some);
 }
 
 -- the node itself, or another one
@@ -104,7 +130,7 @@ either-now h k m n own other mine stays theirs = from (same m n) refl
 lives-now : (k : History) (m : Id) (r : Run) (entry : Entry) (s : Settings) (life : Life) → r ≡ Runs s life → IsNow (node_history k m) m s (Lived life entry) → IsRunNow (node_history k m) m (lives_on r entry)
 lives-now k m r entry s life e now = subst (λ (x : Run). IsRunNow (node_history k m) m (lives_on x entry)) (sym e) now
 
-is-now : (h : History) (m : Id) (r : Run) (s : Settings) (life : Life) → r ≡ Runs s life → IsRunNow (node_history h m) m r → IsNow (node_history h m) m s life
+pub is-now : (h : History) (m : Id) (r : Run) (s : Settings) (life : Life) → r ≡ Runs s life → IsRunNow (node_history h m) m r → IsNow (node_history h m) m s life
 is-now h m r s life e now = subst (IsRunNow (node_history h m) m) e now
 
 -- an entry of no event
@@ -116,13 +142,13 @@ idle-now initial h m entry may mine logs n theirs =
     (lives-now (history_of h) m (run_of h m) entry may.settings may.life may.runs (now-idle (node_history (history_of h) m) m may.settings may.life entry now may.follows (logs may.life)))
     (λ e. refl) theirs
 
-runs-now : (initial : List Id) (h : System) → AreRuns initial h → (n : Id) → IsRunNow (node_history (history_of h) n) n (run_of h n)
+pub runs-now : (initial : List Id) (h : System) → AreGoing h → (n : Id) → IsRunNow (node_history (history_of h) n) n (run_of h n)
 runs-now initial Nothing l n = tt
 runs-now initial (Starts h s found) l n =
     let k : History = history_of h in
     let open_now : History = Next k s.me (Open found) (Answered (Taken None false)) in
     either-now k open_now s.me n (λ x. Runs s (Opened NotBegun found)) (run_of h n)
-    (record { me = refl; follows = (tt, tt); before = node_history k s.me; acts = own_deeds k s.me (Open found) (Answered (Taken None false)); opens = l.1.kept })
+    (record { me = refl; follows = (tt, tt); before = node_history k s.me; acts = own_deeds k s.me (Open found) (Answered (Taken None false)); opens = l.1 })
     (λ e. ap (λ (b : Bool). cond b (Then (node_history k n) (Open found) (Answered (Taken None false))) (node_history k n)) e)
     (runs-now initial h l.0 n)
 runs-now initial (Lives h m (Did e items)) l n =
@@ -145,7 +171,7 @@ pub record IsOfNode (g : NodeHistory) (n : Id) (s : Settings) (life : Life) : Ty
   pub follows : Follows s life
   pub before : NodeHistory
   pub begins : IsBeginning (then_run before (acts_of (log_of life))) g
-  pub opens : OpensWith (durable_of before) (acts_of (log_of life))
+  pub opens : before ≢ NoActs → OpensWith (durable_of before) (acts_of (log_of life))
 
 of-now : (g : NodeHistory) (n : Id) (s : Settings) (life : Life) → IsNow g n s life → IsOfNode g n s life
 of-now g n s life now = record {
@@ -188,11 +214,11 @@ IsUpIn Down e items = Unit {0}
 IsUpIn (Runs s life) e items = IsWithin s life e items
 
 module _ (initial : List Id) where
-  now-lived : (h : System) → AreRuns initial h → (n : Id) (s : Settings) (life : Life) → run_of h n ≡ Runs s life → IsOfNode (node_history (history_of h) n) n s life
+  now-lived : (h : System) → AreGoing h → (n : Id) (s : Settings) (life : Life) → run_of h n ≡ Runs s life → IsOfNode (node_history (history_of h) n) n s life
   now-lived h l n s life e = of-now (node_history (history_of h) n) n s life (is-now (history_of h) n (run_of h n) s life e (runs-now initial h l n))
 
   -- killed when all acts of the event were done
-  killed-lived : (h : System) (m : Id) (e : Event) (items : List Item) → AreRuns initial h → MayDie h m e items → (n : Id) (s : Settings) (life : Life) → IsKilledAfterActs h m e items n s life
+  killed-lived : (h : System) (m : Id) (e : Event) (items : List Item) → AreGoing h → MayDie h m e items → (n : Id) (s : Settings) (life : Life) → IsKilledAfterActs h m e items n s life
       → IsOfNode (node_history (then_acts (history_of h) m items) n) n s life
   killed-lived h m e items l may n s life k =
       let r : Run = run_of h m in
@@ -205,7 +231,7 @@ module _ (initial : List Id) where
       subst (λ (x : Life). IsOfNode (node_history (then_acts (history_of h) m items) n) n s x) (sym k.lived)
       (subst (λ (x : Id). IsOfNode (node_history (then_acts (history_of h) m items) x) x s (Lived k.before (Did e (items_of s (log_of k.before) e)))) k.node after)
 
-  pub had-lived : (h : System) → AreRuns initial h → (n : Id) (s : Settings) (life : Life) → HadLived h n s life → IsOfNode (node_history (history_of h) n) n s life
+  pub had-lived : (h : System) → AreGoing h → (n : Id) (s : Settings) (life : Life) → HadLived h n s life → IsOfNode (node_history (history_of h) n) n s life
   had-lived Nothing l n s life w = absurd w
   had-lived (Starts h t found) l n s life (inl e) = now-lived (Starts h t found) l n s life e
   had-lived (Starts h t found) l n s life (inr w) = of-later (history_of h) (history_of (Starts h t found)) n s life (inr (prefix_self (history_of h))) (had-lived h l.0 n s life w)
@@ -230,7 +256,7 @@ pub record IsKilledOf (g : NodeHistory) (n : Id) (s : Settings) (life : Life) (e
   pub did : IsDoneOf (items_of s (log_of life) e) done
   pub before : NodeHistory
   pub begins : IsBeginning (then_run before (acts_of (added (And (log_of life) (Begins e)) done))) g
-  pub opens : OpensWith (durable_of before) (acts_of (added (And (log_of life) (Begins e)) done))
+  pub opens : before ≢ NoActs → OpensWith (durable_of before) (acts_of (added (And (log_of life) (Begins e)) done))
 
 killed-of-later : (h k : History) (n : Id) (s : Settings) (life : Life) (e : Event) (done : List Item) → IsPrefix h k → IsKilledOf (node_history h n) n s life e done → IsKilledOf (node_history k n) n s life e done
 killed-of-later h k n s life e done i r = record {
@@ -243,7 +269,7 @@ killed-of-later h k n s life e done i r = record {
 }
 
 module _ (initial : List Id) where
-  killed-now : (h : System) (m : Id) (e : Event) (done : List Item) → AreRuns initial h → MayDie h m e done → (s : Settings) (life : Life) → run_of h m ≡ Runs s life
+  killed-now : (h : System) (m : Id) (e : Event) (done : List Item) → AreGoing h → MayDie h m e done → (s : Settings) (life : Life) → run_of h m ≡ Runs s life
       → IsKilledOf (node_history (then_acts (history_of h) m done) m) m s life e done
   killed-now h m e done l may s life runs =
       let same_run : Runs may.settings may.life ≡ Runs s life = sym may.runs ∙ runs in
@@ -256,17 +282,17 @@ module _ (initial : List Id) where
         did = up.did;
         before = now.before;
         begins = subst (IsBeginning (then_run now.before (acts_of (added (And (log_of life) (Begins e)) done)))) (sym acts) (begins_self (then_run now.before (acts_of (added (And (log_of life) (Begins e)) done))));
-        opens = opens-added (durable_of now.before) (And (log_of life) (Begins e)) done now.opens;
+        opens = λ some. opens-added (durable_of now.before) (And (log_of life) (Begins e)) done (now.opens some);
       }
 
-  killed-in : (h : System) (m : Id) (came : Event) (items : List Item) → AreRuns initial h → MayDie h m came items → (n : Id) (s : Settings) (life : Life) (e : Event) (done : List Item) → IsKilledIn h m came items n s life e done
+  killed-in : (h : System) (m : Id) (came : Event) (items : List Item) → AreGoing h → MayDie h m came items → (n : Id) (s : Settings) (life : Life) (e : Event) (done : List Item) → IsKilledIn h m came items n s life e done
       → IsKilledOf (node_history (then_acts (history_of h) m items) n) n s life e done
   killed-in h m came items l may n s life e done k =
       subst (λ (x : Id). IsKilledOf (node_history (then_acts (history_of h) m items) x) x s life e done) k.node
       (subst (λ (x : List Item). IsKilledOf (node_history (then_acts (history_of h) m items) m) m s life e x) k.did
       (subst (λ (x : Event). IsKilledOf (node_history (then_acts (history_of h) m items) m) m s life x items) k.within (killed-now h m came items l may s life k.runs)))
 
-  pub was-killed : (h : System) → AreRuns initial h → (n : Id) (s : Settings) (life : Life) (e : Event) (done : List Item) → WasKilled h n s life e done → IsKilledOf (node_history (history_of h) n) n s life e done
+  pub was-killed : (h : System) → AreGoing h → (n : Id) (s : Settings) (life : Life) (e : Event) (done : List Item) → WasKilled h n s life e done → IsKilledOf (node_history (history_of h) n) n s life e done
   was-killed Nothing l n s life e done w = absurd w
   was-killed (Starts h t found) l n s life e done w = killed-of-later (history_of h) (history_of (Starts h t found)) n s life e done (inr (prefix_self (history_of h))) (was-killed h l.0 n s life e done w)
   was-killed (Lives h m (Did came items)) l n s life e done w = killed-of-later (history_of h) (then_acts (history_of h) m items) n s life e done (then-acts_prefix (history_of h) m items) (was-killed h l.0 n s life e done w)

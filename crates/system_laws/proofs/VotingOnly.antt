@@ -1,5 +1,5 @@
 -- A voting-only node counts no join, and so wins no election.
-use Rattle.std.proofs.Common.{◌≡◌, ◌≢◌, Bool, true, false, cond, ◌⊎◌, inl, inr, Option, Some, None, List, [], ◌∷◌, ◌++◌, refl, sym, ◌∙◌, ap, subst, arith}
+use Rattle.std.proofs.Common.{◌≡◌, ◌≢◌, Bool, true, false, cond, inl, inr, Option, None, List, [], ◌∷◌, ◌++◌, refl, sym, ◌∙◌, ap, subst, arith}
 use Rattle.std.specs.Prelude.{Contains}
 use Rattle.std.specs.List.{AllByRecursion}
 use Rattle.std.proofs.lemmas.Bool.{both_ways}
@@ -19,17 +19,16 @@ use Rattle.world_model.specs.Histories.{History, NoEntries, Next, node_history, 
 use Rattle.world_model.specs.Safety.{Win, winners}
 use Rattle.world_model.proofs.Guards.{boot_guard, start_guard, value_guard, publish_guard, response_guard, commit_guard}
 use Rattle.policy_model.specs.declared.settings.Settings.{Settings}
-use Rattle.policy_model.specs.declared.events.Event.{Event}
 use Rattle.policy_model.specs.Doing.{is_voting_only}
 use Rattle.policy_model.specs.Events.{Item, Opens, Begins, Acts, ChangesMode, Drops, Sends, Replies, Notes, Log, And, added, acts_of}
 use Rattle.policy_model.specs.Entries.{Entry, Did, Gone, Bad, NoMemory, Unread, Life, NotBegun, Opened, Lived, log_of}
 use Rattle.policy_model.specs.Follows.{Follows, items_of}
 use Rattle.policy_model.proofs.Locals.{life_local}
 use Rattle.system_laws.specs.Messages.{comes_with}
-use Rattle.system_laws.specs.Systems.{System, Nothing, Starts, Lives, Dies, Run, Down, Runs, lives_on, run_of, history_of, then_acts, IsDoneOf, MayLive, MayDie, AreRuns, IsSystem}
-use Rattle.system_laws.specs.VotingOnly.{CountsNoJoin, WinsNothing, NeverLeads, LawVotingOnlyNeverLeads, IsVotingOnlyIn, LawVotingOnlyNeverWins}
+use Rattle.system_laws.specs.Systems.{System, Nothing, Starts, Lives, Dies, Run, Down, Runs, lives_on, run_of, history_of, then_acts, AreRuns}
+use Rattle.system_laws.specs.VotingOnly.{CountsNoJoin, WinsNothing, LawVotingOnlyNeverLeads, IsVotingOnlyIn, LawVotingOnlyNeverWins}
 use Rattle.system_laws.proofs.Meant.{IsCalledFor}
-use Rattle.system_laws.proofs.Done.{IsCalledItem, event-meant, event-done, event-called, done-called}
+use Rattle.system_laws.proofs.Done.{IsCalledItem, event-meant, event-called, done-called}
 use Rattle.system_laws.proofs.Stepping.{others-stay}
 use Rattle.system_laws.proofs.Assembly.{lives_assemble}
 

@@ -5,3 +5,4 @@ pub mod Laws
 pub mod Moments
 pub mod Restarts
 pub mod VotingOnly
+pub mod RestartedSystems

@@ -13,6 +13,11 @@ ghost use Rattle.system_laws.specs.Laws.{
   LawSystemIsSafe,
 };
 ghost use Rattle.system_laws.specs.VotingOnly.{LawVotingOnlyNeverLeads, LawVotingOnlyNeverWins};
+ghost use Rattle.system_laws.specs.RestartedSystems.{
+  LawRestartedLivesAssemble,
+  LawRestartedLost,
+  LawRestartedSystemIsSafe,
+};
 ghost use Rattle.system_laws.specs.Restarts.{LawFaultIsSettled, LawKillLeaves, LawLastRunIsKept};
 
 /// What a node sends at an event is from the node itself, and the message of an act in it was sent by an act of this
@@ -79,4 +84,20 @@ pub fn law_fault_is_settled()
 /// a node that is killed there did a part of the event that leaves just that.
 pub fn law_kill_leaves()
     ensures { LawKillLeaves }
+{}
+
+/// From the restart of one node on, as by the tools, runs of nodes that each follow the policy make a legal history too.
+pub fn law_restarted_lives_assemble()
+    ensures { LawRestartedLivesAssemble }
+{}
+
+/// So it is safe, over the state that this node had kept.
+pub fn law_restarted_system_is_safe()
+    ensures { LawRestartedSystemIsSafe }
+{}
+
+/// In a history from such a restart on, what a node has accepted descends from just those committed states whose id is not
+/// above its own.
+pub fn law_restarted_lost()
+    ensures { LawRestartedLost }
 {}
