@@ -18,7 +18,6 @@ use Rattle.cluster_state.specs.declared.state.ClusterValue.{ClusterValue}
 use Rattle.cluster_state.specs.declared.state.StateId.{StateId}
 use Rattle.cluster_state.specs.States.{id_of}
 use Rattle.cluster_state.specs.declared.request.Ask.{Ask}
-use Rattle.cluster_state.specs.declared.request.Request.{Request}
 use Rattle.cluster_state.specs.declared.request.Ask.TheVariants as ask
 use Rattle.cluster_state.specs.declared.reply.Answer.{Answer}
 use Rattle.cluster_state.specs.declared.reply.Answer.TheVariants as answer
@@ -36,7 +35,7 @@ use Rattle.world_model.specs.Safety.{Published, IsCommitted}
 use Rattle.client_guarantees.specs.Replies.{HasCommitted}
 use Rattle.client_guarantees.specs.Asked.{MeetsEach, HasNoVoterOf}
 use Rattle.client_guarantees.proofs.Folding.{Each, each-map, IsAmong, Of, had-behind}
-use Rattle.client_guarantees.proofs.Telling.{AckIsTrue, AnswerIsTrue, AllTrue, true-none, true-cons, true-append}
+use Rattle.client_guarantees.proofs.Telling.{Basis, Up, AckIsTrue, AnswerIsTrue, AllTrue, true-none, true-cons, true-append}
 
 -- nobody waits on where nobody waits
 pub left_none : (decide : Waiting → Option Answer) (ws : List Waiting) → ws ≡ [] → left_by decide ws ≡ []
@@ -62,25 +61,28 @@ split (x ∷ xs) w (inl e) = record { earlier = []; later = xs; is = ap (λ (v :
 split (x ∷ xs) w (inr a) = let rest = split xs w a in record { earlier = x ∷ rest.earlier; later = rest.later; is = ap (λ (l : List Waiting). x ∷ l) rest.is }
 
 -- a committed state of this id has what was processed since some moment
-pub record HasDone (h : History) (g : List Waiting) (done : List Waiting) (id : StateId) : Type 0 where
+pub record HasDone (h : History) (low : StateId) (g : List Waiting) (done : List Waiting) (id : StateId) : Type 0 where
   pub older : List Waiting
   pub processed : g ≡ older ++ done
   pub as_published : Published
   pub is_committed : IsCommitted h as_published
   pub is_id : id_of as_published.state ≡ id
   pub had : MeetsEach as_published.state.value done
+  pub since : Up low id
 
 each-all : (P : Waiting → Type 0) → ((w : Waiting) → P w) → (ws : List Waiting) → Each P ws
 each-all P f [] = tt
 each-all P f (w ∷ ws) = (f w, each-all P f ws)
 
 -- a committed state may be shown to those who came
-abbrev pub MayBeShown : History → (ℕ → Request → Type 0) → ClusterState → Waiting → Type 0
-MayBeShown h P accepted w = HasCommitted h accepted × Of P w
+abbrev pub MayBeShown : History → Basis → ClusterState → Waiting → Type 0
+MayBeShown h P accepted w = HasCommitted h accepted × Of P.came w
 
--- the accepted state is committed, and so is its configuration
-abbrev pub IsSettled : History → NextMaster → Type 0
-IsSettled h l = HasCommitted h l.accepted × (l.committed ≡ l.accepted.config)
+-- the accepted state is committed, and so is its configuration, and it is none that the node had left behind
+pub record IsSettled (h : History) (low : StateId) (l : NextMaster) : Type 0 where
+  pub committed : HasCommitted h l.accepted
+  pub config : l.committed ≡ l.accepted.config
+  pub since : Up low (id_of l.accepted)
 
 -- ---- exclusions
 
@@ -117,8 +119,8 @@ none_is : (o : Option (List Id)) → is_none o ≡ true → is_some o ≡ false
 none_is None e = refl
 none_is (Some ids) e = absurd (true≢false (sym e))
 
-module _ (h : History) (P : ℕ → Request → Type 0) (g : List Waiting) where
-  granted : (done : List Waiting) (id : StateId) → (d : HasDone h g done id) → (w : Waiting) → HasNoVoterOf d.as_published.state.config w.request.ask → IsAmong done w → AckIsTrue h g w.conn w.request.id id
+module _ (h : History) (P : Basis) (g : List Waiting) where
+  granted : (done : List Waiting) (id : StateId) → (d : HasDone h P.low g done id) → (w : Waiting) → HasNoVoterOf d.as_published.state.config w.request.ask → IsAmong done w → AckIsTrue h P.low g w.conn w.request.id id
   granted done id d w n a =
       let p = split done w a in
       record {
@@ -129,6 +131,7 @@ module _ (h : History) (P : ℕ → Request → Type 0) (g : List Waiting) where
         is_processed = d.processed ∙ ap (λ (l : List Waiting). d.older ++ l) p.is ∙ sym (append_assoc d.older p.earlier (w ∷ p.later)) ∙ sym (append-nil ((d.older ++ p.earlier) ++ w ∷ p.later));
         has_conn = refl;
         has_number = refl;
+        since = d.since;
         as_published = d.as_published;
         is_committed = d.is_committed;
         is_id = d.is_id;
@@ -162,17 +165,17 @@ module _ (h : History) (P : ℕ → Request → Type 0) (g : List Waiting) where
   pub true-timed_out : (committed : List Id) (now : ℕ) (ws : List Waiting) → AllTrue h P g (answers_by (timed_out committed now) ws)
   true-timed_out committed now ws = true-answers_by (timed_out committed now) ws (each-all (λ w. IsTrueOption w (timed_out committed now w)) (λ w. late_one w committed _ (excluded_by w.request.ask)) ws)
 
-  committed_one : (done : List Waiting) (id : StateId) → HasDone h g done id → (w : Waiting) → (w.processed ≡ true → IsAmong done w) → IsTrueOption w (committed_in id w)
+  committed_one : (done : List Waiting) (id : StateId) → HasDone h P.low g done id → (w : Waiting) → (w.processed ≡ true → IsAmong done w) → IsTrueOption w (committed_in id w)
   committed_one done id d w a =
       true-if w (w.processed && is_none (excluded_by w.request.ask)) (Some (answer.Acked id)) None
       (λ e. granted done id d w (excludes_none _ w.request.ask (none_is _ (and_parts _ _ e).1)) (a (and_parts _ _ e).0)) (λ e. tt)
 
-  pub true-committed_in : (done : List Waiting) (id : StateId) → HasDone h g done id → (ws : List Waiting) → Each (λ w. w.processed ≡ true → IsAmong done w) ws → AllTrue h P g (answers_by (committed_in id) ws)
+  pub true-committed_in : (done : List Waiting) (id : StateId) → HasDone h P.low g done id → (ws : List Waiting) → Each (λ w. w.processed ≡ true → IsAmong done w) ws → AllTrue h P g (answers_by (committed_in id) ws)
   true-committed_in done id d ws e =
       true-answers_by (committed_in id) ws (each-map (λ w. w.processed ≡ true → IsAmong done w) (λ w. IsTrueOption w (committed_in id w)) (committed_one done id d) ws e)
 
   -- the committed configuration is the state's
-  module _ (done : List Waiting) (committed : List Id) (id : StateId) (d : HasDone h g done id) (c : committed ≡ d.as_published.state.config) where
+  module _ (done : List Waiting) (committed : List Id) (id : StateId) (d : HasDone h P.low g done id) (c : committed ≡ d.as_published.state.config) where
     voting_one : (w : Waiting) (o : Option (List Id)) → excluded_by w.request.ask ≡ o → (w.processed ≡ true → IsAmong done w) → IsTrueOption w (unless_voting committed id w.processed o)
     voting_one w None e a = tt
     voting_one w (Some asked) e a =
@@ -234,8 +237,8 @@ module _ (h : History) (P : ℕ → Request → Type 0) (g : List Waiting) where
   true-when false xs a = true-none h P g
 
   -- where nothing is new, the accepted state has what was processed
-  has_done : (l : NextMaster) (t : Tasks) (older done : List Waiting) → g ≡ older ++ done → MeetsEach (next_value l t) done → HasCommitted h l.accepted → is_nothing_new l t ≡ true → HasDone h g done (id_of l.accepted)
-  has_done l t older done e a c n =
+  has_done : (l : NextMaster) (t : Tasks) (older done : List Waiting) → g ≡ older ++ done → MeetsEach (next_value l t) done → (c : HasCommitted h l.accepted) → Up P.low (id_of l.accepted) → is_nothing_new l t ≡ true → HasDone h P.low g done (id_of l.accepted)
+  has_done l t older done e a c u n =
       let same : next_value l t ≡ c.as_published.state.value = (stays_accepted l t n).value ∙ sym (ap (λ (x : ClusterState). x.value) c.is_state) in
       record {
         older = older;
@@ -244,14 +247,15 @@ module _ (h : History) (P : ℕ → Request → Type 0) (g : List Waiting) where
         is_committed = c.is_committed;
         is_id = ap id_of c.is_state;
         had = subst (λ (v : ClusterValue). MeetsEach v done) same a;
+        since = u;
       }
 
   -- the answers of a next state
   pub true-next : (l : NextMaster) (t : Tasks) (older done : List Waiting) → g ≡ older ++ done → MeetsEach (next_value l t) done → Each (IsAmong done) (processed_by l t).waiting
-      → Each (MayBeShown h P l.accepted) t.waiting → (is_nothing_new l t ≡ true → IsSettled h l) → AllTrue h P g (next_answers l t)
+      → Each (MayBeShown h P l.accepted) t.waiting → (is_nothing_new l t ≡ true → IsSettled h P.low l) → AllTrue h P g (next_answers l t)
   unfolding next_answers processed_by has_done
   true-next l t older done e a w shown c =
       true-append h P g _ _ (true-processed l.accepted (before_all (value_before l.me t l.accepted.value)) t.waiting shown (true-none h P g))
       (true-when (is_nothing_new l t) _ (λ n.
       let k = c n in
-      true-nothing_new done l.committed (id_of l.accepted) (has_done l t older done e a k.0 n) (k.1 ∙ sym (ap (λ (x : ClusterState). x.config) k.0.is_state)) (processed_by l t).waiting w))
+      true-nothing_new done l.committed (id_of l.accepted) (has_done l t older done e a k.committed k.since n) (k.config ∙ sym (ap (λ (x : ClusterState). x.config) k.committed.is_state)) (processed_by l t).waiting w))

@@ -30,9 +30,9 @@ use Rattle.policy_model.specs.declared.settings.Settings.{Settings}
 use Rattle.policy_model.specs.declared.events.Mode.{Mode}
 use Rattle.policy_model.specs.declared.events.Mode.TheVariants.{Candidate, Leader, Follower}
 use Rattle.policy_model.specs.declared.events.Event.{Event}
-use Rattle.policy_model.specs.declared.events.Event.TheVariants.{Start, Tick, Frame as FrameCame, Client as LineCame}
+use Rattle.policy_model.specs.declared.events.Event.TheVariants.{Start, Tick, Frame as FrameCame, Client as LineCame, Disconnected as PeerGone}
 use Rattle.policy_model.specs.declared.events.DropCause.{DropCause}
-use Rattle.policy_model.specs.Events.{Met, Heard, PeersAsked, ElectionOff, ElectionSet, RoundBegun, RoundAnswered, RoundEnded, Joined, FollowersChecked, FollowerAnswered, LeaderChecked, LeaderAnswered, Queued, ExclusionsTimedOut, CommitAcked, ExclusionsAcked, StateMade, HandedOver, Item, Opens, Begins, Acts, ChangesMode, Drops, Sends, Replies, Notes, Log, And, added}
+use Rattle.policy_model.specs.Events.{Met, Heard, PeersAsked, ElectionOff, ElectionSet, RoundBegun, RoundAnswered, RoundEnded, Joined, FollowersChecked, FollowerAnswered, LeaderChecked, LeaderAnswered, Queued, ExclusionsTimedOut, CommitAcked, ExclusionsAcked, StateMade, HandedOver, PeerLost, LeaderLost, Item, Opens, Begins, Acts, ChangesMode, Drops, Sends, Replies, Notes, Log, And, added}
 use Rattle.policy_model.specs.Entries.{Life, NotBegun, Opened, Lived, Did, Gone, Bad, NoMemory, Unread, log_of}
 use Rattle.policy_model.specs.Follows.{Follows, IsNext, IsStruck, Here, Later, without_output, items_of}
 use Rattle.policy_model.specs.Views.{View, view_of}
@@ -45,6 +45,7 @@ use Rattle.policy_model.specs.Publications as publications
 use Rattle.policy_model.specs.Checks as checks
 use Rattle.policy_model.specs.Requests as requests
 use Rattle.policy_model.specs.Rules as rules
+use Rattle.policy_model.specs.Disconnects as disconnects
 use Rattle.client_guarantees.specs.Processed.{processed_of, CameBy, CameIn}
 use Rattle.client_guarantees.proofs.Queued.{WasQueued, processed_was_queued}
 
@@ -231,6 +232,15 @@ module _ (P : ℕ → Request → Type 0) where
     q-ticks v word Leader = q-ticks_leader v
     q-ticks v word (Follower leader) = q-checks_leader v leader v.leader_check
 
+    q-loses : (v : View) (p : Id) (m : Mode) → Queues P (disconnects.loses s v p m)
+    q-loses v p Candidate = q-if _ _ [] (Other _ _ refl Ends) Ends
+    q-loses v p Leader =
+        q-if _ _ []
+        (q-then s v (disconnects.drops_follower s p) (disconnects.goes_on_with_rest s) (Other _ _ refl (Other _ _ refl Ends))
+        (λ u. q-if (disconnects.keeps_quorum s u) _ _ (q-goes_on u) (q-becomes_candidate u)))
+        Ends
+    q-loses v p (Follower leader) = q-if (same leader p) _ [] (q-append _ _ (q-becomes_candidate v) (Other _ _ refl Ends)) Ends
+
     q-message : (v : View) (p : Id) (m : WireMessage) → Queues P (rules.takes_message s v p m)
     q-message v p (message.StartJoin candidate t) = q-on_start_join v candidate t
     q-message v p (message.Join t last) = q-joined v p t last
@@ -261,15 +271,16 @@ next_queues : (s : Settings) (v : View) (e : Event) → Queues (CameBy e) (rules
 next_queues s v Start = Other _ _ refl (Other _ _ refl Ends)
 next_queues s v (Tick now word) = q-ticks (CameBy (Tick now word)) s v word v.mode
 next_queues s v (FrameCame frame) = q-if (CameBy (FrameCame frame)) (same frame.to s.me) _ [] (q-message (CameBy (FrameCame frame)) s v frame.from frame.message) Ends
+next_queues s v (PeerGone peer) = q-loses (CameBy (PeerGone peer)) s v peer v.mode
 next_queues s v (LineCame conn line) = q-line (CameBy (LineCame conn line)) s v conn (line_request line) (λ a e. (refl, e))
 
 -- ---- the log
 
-abbrev Fits : (ℕ → Request → Type 0) → Item → Type 0
+abbrev pub Fits : (ℕ → Request → Type 0) → Item → Type 0
 Fits P (Notes (Queued conn request)) = P conn request
 Fits P i = Unit {0}
 
-abbrev AllFit : (ℕ → Request → Type 0) → List Item → Type 0
+abbrev pub AllFit : (ℕ → Request → Type 0) → List Item → Type 0
 AllFit P [] = Unit {0}
 AllFit P (i ∷ is) = Fits P i × AllFit P is
 
@@ -300,6 +311,8 @@ fits_other P (Notes CommitAcked) e = tt
 fits_other P (Notes ExclusionsAcked) e = tt
 fits_other P (Notes StateMade) e = tt
 fits_other P (Notes HandedOver) e = tt
+fits_other P (Notes (PeerLost id)) e = tt
+fits_other P (Notes (LeaderLost rank)) e = tt
 
 all_fit : (P : ℕ → Request → Type 0) (is : List Item) → Queues P is → AllFit P is
 all_fit P xs Ends = tt
@@ -348,8 +361,10 @@ one_queued P l (Notes CommitAcked) c r f q = inr q
 one_queued P l (Notes ExclusionsAcked) c r f q = inr q
 one_queued P l (Notes StateMade) c r f q = inr q
 one_queued P l (Notes HandedOver) c r f q = inr q
+one_queued P l (Notes (PeerLost id)) c r f q = inr q
+one_queued P l (Notes (LeaderLost rank)) c r f q = inr q
 
-all_queued : (P : ℕ → Request → Type 0) (l : Log) (is : List Item) (conn : ℕ) (request : Request) → AllFit P is → WasQueued (added l is) conn request → P conn request ⊎ WasQueued l conn request
+pub all_queued : (P : ℕ → Request → Type 0) (l : Log) (is : List Item) (conn : ℕ) (request : Request) → AllFit P is → WasQueued (added l is) conn request → P conn request ⊎ WasQueued l conn request
 all_queued P l [] conn request a q = inr q
 all_queued P l (i ∷ is) conn request a q = from (all_queued P (And l i) is conn request a.1 q)
   where
@@ -357,7 +372,7 @@ all_queued P l (i ∷ is) conn request a q = from (all_queued P (And l i) is con
     from (inl p) = inl p
     from (inr k) = one_queued P l i conn request a.0 k
 
-event_fits : (s : Settings) (life : Life) (e : Event) (is : List Item) → IsNext s life e is → AllFit (CameBy e) is
+pub event_fits : (s : Settings) (life : Life) (e : Event) (is : List Item) → IsNext s life e is → AllFit (CameBy e) is
 event_fits s life e is n = by n.does
   where
     does : AllFit (CameBy e) (items_of s (log_of life) e)

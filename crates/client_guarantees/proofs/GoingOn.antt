@@ -1,13 +1,13 @@
 -- What a leader that goes on tells and leaves.
-use Rattle.std.proofs.Common.{◌≡◌, ℕ, Bool, true, false, true≢false, not, ◌&&◌, Option, None, Some, List, [], ◌∷◌, ◌++◌, refl, sym, ◌∙◌, ap, subst}
-use Rattle.std.specs.Prelude.{◌+◌, is_some, if◌then◌else◌}
+use Rattle.std.proofs.Common.{◌≡◌, Bool, true, false, true≢false, not, ◌&&◌, Option, None, Some, List, [], ◌∷◌, ◌++◌, refl, sym, ◌∙◌, ap, subst}
+use Rattle.std.specs.Prelude.{◌+◌, cond, is_some, if◌then◌else◌}
 use Rattle.std.proofs.lemmas.Bool.{both_ways, and_parts, not-true}
 use Rattle.std.proofs.lemmas.List.{append_assoc, append-nil}
 use Rattle.voting_config.specs.Ids.{Id}
 use Rattle.cluster_state.specs.declared.state.ClusterState.{ClusterState}
 use Rattle.cluster_state.specs.declared.state.ClusterValue.{ClusterValue}
+use Rattle.cluster_state.specs.declared.state.StateId.{StateId}
 use Rattle.cluster_state.specs.States.{id_of}
-use Rattle.cluster_state.specs.declared.request.Request.{Request}
 use Rattle.publication.specs.Publications.{Publication}
 use Rattle.master_tasks.specs.declared.waiting.Waiting.{Waiting}
 use Rattle.master_tasks.specs.Queue.{Tasks, to_be_added}
@@ -31,8 +31,8 @@ use Rattle.client_guarantees.specs.Asked.{MeetsEach}
 use Rattle.client_guarantees.proofs.Leading.{IsDone, HasWon}
 use Rattle.client_guarantees.proofs.Steady.{standing, steady-sends, steady-hands_over}
 use Rattle.client_guarantees.proofs.Folding.{Each, each-map, IsAmong, next_folded, next_had, Of, of-waiting}
-use Rattle.client_guarantees.proofs.Backing.{IsUnique}
-use Rattle.client_guarantees.proofs.Telling.{place, true-later, grown, Keeps, keeps-none, keeps-then, keeps-if, keeps-item, keeps-steady, keeps-replies}
+use Rattle.client_guarantees.proofs.Backing.{HasAcceptedLast, IsUnique}
+use Rattle.client_guarantees.proofs.Telling.{Basis, Up, HasReached, place, true-later, grown, Keeps, keeps-none, keeps-then, keeps-if, keeps-item, keeps-steady, keeps-replies}
 use Rattle.client_guarantees.proofs.Holding.{IsMade, Holds, IsReadyToGo, ready-holds, each-if, each-left, holds-value}
 use Rattle.client_guarantees.proofs.Answers.{something_new, IsSettled, MayBeShown, true-next}
 use Rattle.client_guarantees.proofs.Modes.{keeps-becomes_candidate}
@@ -66,7 +66,15 @@ base-empty v g e = record {
   among = subst (Each (λ w. w.processed ≡ true → IsAmong [] w)) (sym e) tt;
 }
 
-module _ (h : History) (U : IsUnique h) (s : Settings) (P : ℕ → Request → Type 0) where
+-- who has won has published last what its term and its version say
+pub reached : (low : StateId) (v : View) → v.node.election_won ≡ true → HasReached low v → Up low (published_id v.node)
+reached low v won r = subst (λ (b : Bool). Up low (record { term = v.node.term; version = cond b v.node.published_version 0 })) won r
+
+pub reached_last : (low : StateId) (v : View) → v.node.election_won ≡ true → HasAcceptedLast v.node → HasReached low v → Up low (id_of v.node.accepted)
+reached_last low v won d r =
+    subst (Up low) (λ i. record { term = sym d.term i; version = sym d.version i }) (reached low v won r)
+
+module _ (h : History) (U : IsUnique h) (s : Settings) (P : Basis) where
   -- the accepted state is the one that the node published last
   pub accepted_made : (v : View) (g : List Waiting) (m : IsMade h (place v g)) → IsDone h v.node → m.as_published.state ≡ v.node.accepted
   accepted_made v g m d =
@@ -110,7 +118,7 @@ module _ (h : History) (U : IsUnique h) (s : Settings) (P : ℕ → Request → 
       each-after (λ w. w.processed ≡ true → IsAmong n.done w) l v.tasks (each-map (IsAmong n.done) (λ w. w.processed ≡ true → IsAmong n.done w) (λ w a t. a) (processed_by l v.tasks).waiting n.wait)
 
   -- the state is published, or the node gives up
-  keeps-publishes : (v : View) (k : List Waiting) → MakesNow v k → Each (Of P) (moved s v (Notes StateMade)).tasks.waiting → doing.is_leader v.mode ≡ true → v.node.election_won ≡ true → Keeps h s P (moved s v (Notes StateMade)) k (next.publishes s v (moved s v (Notes StateMade))) (Holds h s P)
+  keeps-publishes : (v : View) (k : List Waiting) → MakesNow v k → Each (Of P.came) (moved s v (Notes StateMade)).tasks.waiting → doing.is_leader v.mode ≡ true → v.node.election_won ≡ true → Keeps h s P (moved s v (Notes StateMade)) k (next.publishes s v (moved s v (Notes StateMade))) (Holds h s P)
   keeps-publishes v k n came l won =
       let made = moved s v (Notes StateMade) in
       let act = next.value_act s v in
@@ -122,20 +130,20 @@ module _ (h : History) (U : IsUnique h) (s : Settings) (P : ℕ → Request → 
 
   -- what is made of the answers, where nothing is new, and where something is
   keeps-made : (v : View) (g : List Waiting) → HasBase v g
-      → Each (MayBeShown h P v.node.accepted) v.tasks.waiting → Each (Of P) v.tasks.waiting
-      → (is_nothing_new (as_master s v.node) v.tasks ≡ true → IsSettled h (as_master s v.node))
+      → Each (MayBeShown h P v.node.accepted) v.tasks.waiting → Each (Of P.came) v.tasks.waiting
+      → (HasReached P.low v → is_nothing_new (as_master s v.node) v.tasks ≡ true → IsSettled h P.low (as_master s v.node))
       → (is_nothing_new (as_master s v.node) v.tasks ≡ true → MakesNow v (g ++ processed_into_next (as_master s v.node) v.tasks)
-      → Each (Of P) (moved s v (Notes StateMade)).tasks.waiting → Holds h s P (place (moved s v (Notes StateMade)) (g ++ processed_into_next (as_master s v.node) v.tasks)))
+      → Each (Of P.came) (moved s v (Notes StateMade)).tasks.waiting → Holds h s P (place (moved s v (Notes StateMade)) (g ++ processed_into_next (as_master s v.node) v.tasks)))
       → doing.is_leader v.mode ≡ true → v.node.election_won ≡ true → Keeps h s P v g (next.makes_state s v) (Holds h s P)
   keeps-made v g b shown came c same l won =
       let master = as_master s v.node in
       let k = g ++ processed_into_next master v.tasks in
       let n = makes_now v g b in
       let made = moved s v (Notes StateMade) in
-      let left : Each (Of P) (moved s v (Notes StateMade)).tasks.waiting = each-after (Of P) master v.tasks (of-waiting P master v.tasks came) in
+      let left : Each (Of P.came) (moved s v (Notes StateMade)).tasks.waiting = each-after (Of P.came) master v.tasks (of-waiting P.came master v.tasks came) in
       let rest : List Item = if is_nothing_new master v.tasks then [] else next.publishes s v made in
       keeps-replies h s P v g (next_answers master v.tasks) (Notes StateMade ∷ rest) (Holds h s P)
-      (true-later h P k _ (next_answers master v.tasks) (grown s made k rest) (true-next h P k master v.tasks n.older n.done n.processed n.had n.wait shown c))
+      (λ r. true-later h P k _ (next_answers master v.tasks) (grown s made k rest) (true-next h P k master v.tasks n.older n.done n.processed n.had n.wait shown (c r)))
       (keeps-item h s P v g (Notes StateMade) _ (Holds h s P) refl
       (λ a. keeps-if h s P made k (is_nothing_new master v.tasks) [] _ (Holds h s P)
       (λ e. keeps-none h s P made k (Holds h s P) (same e n left))
@@ -150,14 +158,14 @@ module _ (h : History) (U : IsUnique h) (s : Settings) (P : ℕ → Request → 
           let never = something_new (as_master s v.node) v.tasks new.older in
           let nobody = r.ready.empty l n m in
           keeps-made v g (base-empty v g nobody) (subst (Each (MayBeShown h P v.node.accepted)) (sym nobody) tt) r.came
-          (λ t. absurd (both_ways _ never t)) (λ t k c. absurd (both_ways _ never t)) l (r.ready.leads.won l)
+          (λ q t. absurd (both_ways _ never t)) (λ t k c. absurd (both_ways _ never t)) l (r.ready.leads.won l)
       from (Some p) n e =
           let done = r.ready.leads.done l p n (finished p.finished e) in
           let some : is_some v.publication ≡ true = ap is_some n in
           let made = r.made l some in
           let base = base-made v g made done in
-          keeps-made v g base (each-map (Of P) (MayBeShown h P v.node.accepted) (λ w c. (done.committed, c)) v.tasks.waiting r.came) r.came
-          (λ t. (done.committed, done.settled)) (same made (accepted_made v g made done)) l (r.ready.leads.won l)
+          keeps-made v g base (each-map (Of P.came) (MayBeShown h P v.node.accepted) (λ w c. (done.committed, c)) v.tasks.waiting r.came) r.came
+          (λ q t. record { committed = done.committed; config = done.settled; since = reached_last P.low v (r.ready.leads.won l) done.last q }) (same made (accepted_made v g made done)) l (r.ready.leads.won l)
         where
           finished : (b : Bool) → not b ≡ false → b ≡ true
           finished true e = refl
@@ -167,7 +175,7 @@ module _ (h : History) (U : IsUnique h) (s : Settings) (P : ℕ → Request → 
           nothing k n = cc
 
           same : (made : IsMade h (place v g)) → made.as_published.state ≡ v.node.accepted → is_nothing_new (as_master s v.node) v.tasks ≡ true → MakesNow v (g ++ processed_into_next (as_master s v.node) v.tasks)
-              → Each (Of P) (moved s v (Notes StateMade)).tasks.waiting → Holds h s P (place (moved s v (Notes StateMade)) (g ++ processed_into_next (as_master s v.node) v.tasks))
+              → Each (Of P.came) (moved s v (Notes StateMade)).tasks.waiting → Holds h s P (place (moved s v (Notes StateMade)) (g ++ processed_into_next (as_master s v.node) v.tasks))
           same made accepted t k left = record {
             stands = record {
               leads = record { idle = λ x. absurd (both_ways _ x l); won = r.ready.leads.won; new = r.ready.leads.new; done = r.ready.leads.done };
@@ -214,7 +222,7 @@ module _ (h : History) (U : IsUnique h) (s : Settings) (P : ℕ → Request → 
           empty = λ l n m. waiting-added (to_be_added v.tasks s.me) v.node.join_votes ∙ w.empty;
         };
         made = λ l e. absurd (true≢false (sym e ∙ ap is_some w.unpublished));
-        came = subst (Each (Of P)) (sym (waiting-added (to_be_added v.tasks s.me) v.node.join_votes ∙ w.empty)) tt;
+        came = subst (Each (Of P.came)) (sym (waiting-added (to_be_added v.tasks s.me) v.node.join_votes ∙ w.empty)) tt;
       }
 
   pub keeps-takes_member : (v : View) (g : List Waiting) (p : Id) → Holds h s P (place v g) → Keeps h s P v g (joins.takes_member s v p) (Holds h s P)

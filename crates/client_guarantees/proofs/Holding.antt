@@ -37,7 +37,7 @@ use Rattle.client_guarantees.proofs.Steady.{Standing}
 use Rattle.client_guarantees.proofs.Leading.{IsIdle, Stands, IsReady, stands-idle, ready-stands, stands-waiting, refused-stands, stands-publish, stands-commit, stands-response, stands-join, stands-value}
 use Rattle.client_guarantees.proofs.Folding.{Each, each-map, IsAmong, Of}
 use Rattle.client_guarantees.proofs.Backing.{Backs}
-use Rattle.client_guarantees.proofs.Telling.{Place, place}
+use Rattle.client_guarantees.proofs.Telling.{Basis, Place, place}
 
 -- The state that a node published last is published, and has what was processed since some moment, unless a later request may have undone it. The requests that wait and are processed were processed since.
 pub record IsMade (h : History) (x : Place) : Type 0 where
@@ -54,16 +54,16 @@ abbrev pub WhereMade : History → Place → Type 0
 WhereMade h x = is_leader x.stands.mode ≡ true → is_some x.stands.publication ≡ true → IsMade h x
 
 -- between events: who waits came, too
-pub record Holds (h : History) (s : Settings) (P : ℕ → Request → Type 0) (x : Place) : Type 0 where
+pub record Holds (h : History) (s : Settings) (P : Basis) (x : Place) : Type 0 where
   pub stands : Stands h s x.stands
   pub made : WhereMade h x
-  pub came : Each (Of P) x.stands.waiting
+  pub came : Each (Of P.came) x.stands.waiting
 
 -- before a leader goes on
-pub record IsReadyToGo (h : History) (s : Settings) (P : ℕ → Request → Type 0) (x : Place) : Type 0 where
+pub record IsReadyToGo (h : History) (s : Settings) (P : Basis) (x : Place) : Type 0 where
   pub ready : IsReady h s x.stands
   pub made : WhereMade h x
-  pub came : Each (Of P) x.stands.waiting
+  pub came : Each (Of P.came) x.stands.waiting
 
 -- requests that are left
 pub each-if : (P : Waiting → Type 0) (b : Bool) (xs ys : List Waiting) → Each P xs → Each P ys → Each P (if b then xs else ys)
@@ -85,9 +85,9 @@ some_finished (Some p) e = refl
 none_is : (o : Option Publication) {A : Type 0} → o ≡ None → is_some o ≡ true → A
 none_is o n e = absurd (true≢false (sym e ∙ ap is_some n))
 
-module _ (h : History) (s : Settings) (P : ℕ → Request → Type 0) where
+module _ (h : History) (s : Settings) (P : Basis) where
   pub holds-idle : (x : Place) → is_leader x.stands.mode ≡ false → x.stands.publication ≡ None → x.stands.waiting ≡ [] → Holds h s P x
-  holds-idle x e p w = record { stands = stands-idle h s x.stands e p w; made = λ l. absurd (both_ways _ e l); came = subst (Each (Of P)) (sym w) tt }
+  holds-idle x e p w = record { stands = stands-idle h s x.stands e p w; made = λ l. absurd (both_ways _ e l); came = subst (Each (Of P.came)) (sym w) tt }
 
   pub idle-holds : (x : Place) → is_leader x.stands.mode ≡ false → IsIdle x.stands → Holds h s P x
   idle-holds x e i = holds-idle x e (i e).0 (i e).1
@@ -96,8 +96,8 @@ module _ (h : History) (s : Settings) (P : ℕ → Request → Type 0) where
   ready-holds x i = record { ready = ready-stands h s x.stands i.stands; made = i.made; came = i.came }
 
   -- where more came
-  pub holds-more : (R : ℕ → Request → Type 0) → ((conn : ℕ) (r : Request) → R conn r → P conn r) → (x : Place) → Holds h s R x → Holds h s P x
-  holds-more R f x i = record { stands = i.stands; made = i.made; came = each-map (Of R) (Of P) (λ w q. f w.conn w.request q) x.stands.waiting i.came }
+  pub holds-more : (R : Basis) → ((conn : ℕ) (r : Request) → R.came conn r → P.came conn r) → (x : Place) → Holds h s R x → Holds h s P x
+  holds-more R f x i = record { stands = i.stands; made = i.made; came = each-map (Of R.came) (Of P.came) (λ w q. f w.conn w.request q) x.stands.waiting i.came }
 
   -- what the claim of the last published state rests on
   pub made-again : (x y : Place) → published_id y.stands.node ≡ published_id x.stands.node → y.processed ≡ x.processed
@@ -118,7 +118,7 @@ module _ (h : History) (s : Settings) (P : ℕ → Request → Type 0) where
   holds-waiting x ws e w i = record {
     stands = stands-waiting h s x.stands ws e i.stands;
     made = λ l p. made-again x (record { stands = record x.stands { waiting = ws }; processed = x.processed }) refl refl w (i.made l p);
-    came = w (Of P) i.came;
+    came = w (Of P.came) i.came;
   }
 
   pub holds-refused : (v : View) (g : List Waiting) (act : Act) (r : ActReply) → is_opening act ≡ false → is_taken r ≡ false → Holds h s P (place v g) → Holds h s P (place (moved s v (Acts act (Answered r))) g)
@@ -152,7 +152,7 @@ module _ (h : History) (s : Settings) (P : ℕ → Request → Type 0) where
 
   -- a publication begins, of a value that has what was processed
   pub holds-value : (v : View) (g older done : List Waiting) (version : ℕ) (config : List Id) (value : ClusterValue) (r : ActReply) → is_taken r ≡ true → is_leader v.mode ≡ true → v.node.election_won ≡ true
-      → Backs h v.node (Value version config value) r → g ≡ older ++ done → MeetsEach value done → Each (λ w. w.processed ≡ true → IsAmong done w) v.tasks.waiting → Each (Of P) v.tasks.waiting
+      → Backs h v.node (Value version config value) r → g ≡ older ++ done → MeetsEach value done → Each (λ w. w.processed ≡ true → IsAmong done w) v.tasks.waiting → Each (Of P.came) v.tasks.waiting
       → Holds h s P (place (moved s v (Acts (Value version config value) (Answered r))) g)
   holds-value v g older done version config value (Taken sends wins) t l won b e a w c =
       let p = b refl in

@@ -11,8 +11,11 @@ pub mod GoingOn
 pub mod Rules
 pub mod Queued
 pub mod Coming
+pub mod Newest
 pub mod Running
 pub mod Lives
 pub mod Laws
 pub mod StayingOut
+pub mod Making
+pub mod Lasting
 mod Examples

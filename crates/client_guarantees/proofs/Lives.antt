@@ -5,6 +5,7 @@ use Rattle.std.proofs.lemmas.Bool.{both_ways, and_parts}
 use Rattle.std.proofs.lemmas.List.{append-nil}
 use Rattle.std.proofs.lemmas.List.Elements.{All-nil, All-cons, All-head, All-tail, Contains-append_left, Contains-append_right}
 use Rattle.cluster_state.specs.declared.state.ClusterState.{ClusterState}
+use Rattle.cluster_state.specs.declared.state.StateId.{StateId}
 use Rattle.cluster_state.specs.declared.reply.Answer.TheVariants as answer
 use Rattle.cluster_state.specs.declared.reply.Reply.{Reply}
 use Rattle.cluster_state.specs.declared.reply.Reply.TheVariants as reply
@@ -22,8 +23,9 @@ use Rattle.world_model.proofs.System.{IsSystem}
 use Rattle.world_model.proofs.Moments.{Begins as IsBeginning, begins_self, begins_trans}
 use Rattle.policy_model.specs.declared.settings.Settings.{Settings}
 use Rattle.policy_model.specs.declared.events.Event.{Event}
-use Rattle.policy_model.specs.Events.{Met, Heard, PeersAsked, ElectionOff, ElectionSet, RoundBegun, RoundAnswered, RoundEnded, Joined, FollowersChecked, FollowerAnswered, LeaderChecked, LeaderAnswered, Queued, ExclusionsTimedOut, CommitAcked, ExclusionsAcked, StateMade, HandedOver, Item, Log, Opens, Begins, Acts, ChangesMode, Drops, Sends, Replies, Notes, And, added, acts_of}
+use Rattle.policy_model.specs.Events.{Met, Heard, PeersAsked, ElectionOff, ElectionSet, RoundBegun, RoundAnswered, RoundEnded, Joined, FollowersChecked, FollowerAnswered, LeaderChecked, LeaderAnswered, Queued, ExclusionsTimedOut, CommitAcked, ExclusionsAcked, StateMade, HandedOver, PeerLost, LeaderLost, Item, Log, Opens, Begins, Acts, ChangesMode, Drops, Sends, Replies, Notes, And, added, acts_of}
 use Rattle.policy_model.specs.Entries.{Life, NotBegun, Opened, Lived, Did, Gone, Bad, NoMemory, Unread, log_of, replies_of}
+use Rattle.policy_model.specs.LookBacks.{node_of}
 use Rattle.policy_model.specs.Views.{View, view_of}
 use Rattle.policy_model.specs.Moves.{moved, moved_all, is_own, are_own, view_of-And}
 use Rattle.policy_model.specs.Local.{IsAnswered, ByAct, ByQuiet, Ended, is_quiet}
@@ -32,14 +34,15 @@ use Rattle.policy_model.proofs.Answering.{answered-next}
 use Rattle.policy_model.proofs.Standing.{view_of-added, own-quiet, own-answered}
 use Rattle.policy_model.proofs.Locals.{struck_fault}
 use Rattle.policy_model.proofs.Faults.{struck-replies}
-use Rattle.client_guarantees.specs.Processed.{processed_of, CameIn}
+use Rattle.client_guarantees.specs.Processed.{processed_of, CameAt, last_id}
 use Rattle.client_guarantees.specs.Replies.{IsTrueReply, RepliesTruly}
 use Rattle.client_guarantees.specs.Laws.{IsRunIn}
 use Rattle.client_guarantees.proofs.Running.{begins-run, begins-within, node-within}
 use Rattle.client_guarantees.proofs.Backing.{Backs, backs, unique}
-use Rattle.client_guarantees.proofs.Telling.{processed_after, processed_after_all, ReplyIsTrue, place, AllTrue, AreBacked, Ends, Keeps}
+use Rattle.client_guarantees.proofs.Telling.{processed_after, processed_after_all, Up, ReplyIsTrue, place, AllTrue, AreBacked, Ends, Keeps}
 use Rattle.client_guarantees.proofs.Holding.{Holds, holds-idle, holds-more}
-use Rattle.client_guarantees.proofs.Coming.{processed_came}
+use Rattle.client_guarantees.proofs.Queued.{processed_was_queued}
+use Rattle.client_guarantees.proofs.Newest.{up-same, up-trans, up-act, quiet_acts, low_of, basis, CameOver, came_over}
 use Rattle.client_guarantees.proofs.Rules.{keeps-next}
 
 -- the acts before an item begin those with it
@@ -85,6 +88,8 @@ processed-And s l (Notes CommitAcked) e = refl
 processed-And s l (Notes ExclusionsAcked) e = refl
 processed-And s l (Notes StateMade) e = refl
 processed-And s l (Notes HandedOver) e = refl
+processed-And s l (Notes (PeerLost id)) e = refl
+processed-And s l (Notes (LeaderLost rank)) e = refl
 
 processed-added : (s : Settings) (l : Log) (is : List Item) → are_own is ≡ true → processed_of s (added l is) ≡ processed_after_all s (view_of s l) (processed_of s l) is
 processed-added s l [] e = refl
@@ -96,13 +101,15 @@ processed-added s l (i ∷ is) e =
 
 -- ---- what is true by which requests came and were processed, said of a life
 
-true_at : (h : History) (s : Settings) (life : Life) → Follows s life → (conn : ℕ) (r : Reply) → ReplyIsTrue h (CameIn life) (processed_of s (log_of life)) conn r → IsTrueReply h s life conn r
+true_at : (h : History) (s : Settings) (life : Life) → Follows s life → (conn : ℕ) (r : Reply) → ReplyIsTrue h (basis life) (processed_of s (log_of life)) conn r → IsTrueReply h s life conn r
 true_at h s life f conn (reply.BadLine fault) t = tt
 true_at h s life f conn (reply.To number (answer.Acked id)) t = record {
   request = t.request;
   has_conn = t.has_conn;
   has_number = t.has_number;
-  came = subst (λ (c : ℕ). CameIn life c t.request.request) t.has_conn (processed_came s life f t.request is_in);
+  newest = over.newest;
+  came = subst (λ (c : ℕ). CameAt life c t.request.request over.newest) t.has_conn over.came;
+  since = up-trans over.newest (low_of life) id over.below t.since;
   earlier = t.earlier;
   later = t.later;
   after = t.after;
@@ -118,6 +125,9 @@ true_at h s life f conn (reply.To number (answer.Acked id)) t = record {
     is_in =
         subst (λ (ws : List Waiting). Contains ws t.request) (sym t.is_processed)
         (Contains-append_left (t.earlier ++ t.request ∷ t.later) t.after t.request (Contains-append_right t.earlier (t.request ∷ t.later) t.request (0, (omega arith), refl)))
+
+    over : CameOver life t.request.conn t.request.request
+    over = came_over s life f t.request.conn t.request.request (processed_was_queued s (log_of life) t.request is_in)
 true_at h s life f conn (reply.To number (answer.State state)) t =
     record { request = t.request; has_number = t.has_number; is_asked = t.is_asked; came = t.came; committed = t.committed }
 true_at h s life f conn (reply.To number (answer.NotMaster leader)) t = tt
@@ -129,11 +139,11 @@ true_at h s life f conn (reply.To number (answer.StillMember id)) t = tt
 true_at h s life f conn (reply.To number (answer.FailedToCommit term)) t = tt
 true_at h s life f conn (reply.To number (answer.ExclusionTimeout ids)) t = tt
 
-all_true_at : (h : History) (s : Settings) (life : Life) → Follows s life → (outs : List Outgoing) → AllTrue h (CameIn life) (processed_of s (log_of life)) outs
+all_true_at : (h : History) (s : Settings) (life : Life) → Follows s life → (outs : List Outgoing) → AllTrue h (basis life) (processed_of s (log_of life)) outs
     → All (λ (out : Outgoing). IsTrueReply h s life out.conn out.reply) outs
 all_true_at h s life f [] t = All-nil (λ (out : Outgoing). IsTrueReply h s life out.conn out.reply)
 all_true_at h s life f (out ∷ outs) t =
-    let P : Outgoing → Type 0 = λ x. ReplyIsTrue h (CameIn life) (processed_of s (log_of life)) x.conn x.reply in
+    let P : Outgoing → Type 0 = λ x. ReplyIsTrue h (basis life) (processed_of s (log_of life)) x.conn x.reply in
     All-cons (λ (x : Outgoing). IsTrueReply h s life x.conn x.reply) out outs (true_at h s life f out.conn out.reply (All-head P out outs t.all))
     (all_true_at h s life f outs (record { all = All-tail P out outs t.all }))
 
@@ -145,40 +155,44 @@ module _ (h : History) (root : ClusterState) (W : IsSystem (node_history h) root
       let whole = begins_trans (then_run g (Then p act (Answered reply))) (then_run g r) (node_history h s.me) (begins-within g (Then p act (Answered reply)) r b) is_in in
       subst (λ (n : NodeState). Backs h n act reply) (node-within g r p act (Answered reply) opens closed b) (backs h root W s.me (then_run g p) act reply whole)
 
-  quietly : (v : View) (i : Item) (is : List Item) → is_quiet i ≡ true → AreBacked h s (moved s v i) is → AreBacked h s v (i ∷ is)
-  quietly v (Opens found) is e a = cc
-  quietly v (Begins event) is e a = cc
-  quietly v (Acts act o) is e a = cc
-  quietly v (ChangesMode mode term) is e a = (tt, a)
-  quietly v (Drops member cause) is e a = (tt, a)
-  quietly v (Sends frame) is e a = (tt, a)
-  quietly v (Replies answer) is e a = (tt, a)
-  quietly v (Notes note) is e a = (tt, a)
+  -- how much the node had published as the event began
+  module _ (low : StateId) where
+    quietly : (v : View) (i : Item) (is : List Item) → is_quiet i ≡ true → Up low (last_id v.node) → AreBacked h s low (moved s v i) is → AreBacked h s low v (i ∷ is)
+    quietly v (Opens found) is e u a = cc
+    quietly v (Begins event) is e u a = cc
+    quietly v (Acts act o) is e u a = cc
+    quietly v (ChangesMode mode term) is e u a = (tt, a)
+    quietly v (Drops member cause) is e u a = (tt, a)
+    quietly v (Sends frame) is e u a = (tt, a)
+    quietly v (Replies answer) is e u a = (u, a)
+    quietly v (Notes note) is e u a = (tt, a)
 
-  -- the history backs the acts of a part of what the node does, which stand in its log
-  backed : (l : Log) (v : View) (xs prefix rest : List Item) → IsAnswered s v xs → xs ≡ prefix ++ rest → v ≡ view_of s l → IsBeginning (acts_of (added l prefix)) r → AreBacked h s v prefix
-  backed l v xs [] rest a same e b = tt
-  backed l v xs (f ∷ fs) rest (Ended u) same e b = absurd (cc)
-  backed l v xs (f ∷ fs) rest (ByAct u act is o a) same e b =
-      let i : Item = Acts act (Answered (reply_at s.me u.node act)) in
-      let own : is_own i ≡ true = rw o refl in
-      let head : Acts act (Answered (reply_at s.me u.node act)) ≡ f = cc in
-      let tail : is ≡ fs ++ rest = cc in
-      let all : IsBeginning (acts_of (added (And l i) fs)) r = subst (λ (x : Item). IsBeginning (acts_of (added (And l x) fs)) r) (sym head) b in
-      let here = begins_trans (acts_of (And l i)) (acts_of (added (And l i) fs)) r (begins_added (And l i) fs) all in
-      subst (λ (x : Item). AreBacked h s v (x ∷ fs)) head (
-        subst (λ (w : View). Backs h w.node act (reply_at s.me u.node act)) (sym e) (backs-within (acts_of l) act (reply_at s.me u.node act) o here),
-        backed (And l i) (moved s u i) is fs rest a tail (ap (λ (w : View). moved s w i) e ∙ sym (view_of-And s l i own)) all,
-      )
-  backed l v xs (f ∷ fs) rest (ByQuiet u i is q a) same e b =
-      let head : i ≡ f = cc in
-      let tail : is ≡ fs ++ rest = cc in
-      let all : IsBeginning (acts_of (added (And l i) fs)) r = subst (λ (x : Item). IsBeginning (acts_of (added (And l x) fs)) r) (sym head) b in
-      subst (λ (x : Item). AreBacked h s v (x ∷ fs)) head
-      (quietly u i fs q (backed (And l i) (moved s u i) is fs rest a tail (ap (λ (w : View). moved s w i) e ∙ sym (view_of-And s l i (own-quiet i q))) all))
+    -- the history backs the acts of a part of what the node does, which stand in its log
+    backed : (l : Log) (v : View) (xs prefix rest : List Item) → IsAnswered s v xs → xs ≡ prefix ++ rest → v ≡ view_of s l → Up low (last_id (node_of l)) → IsBeginning (acts_of (added l prefix)) r → AreBacked h s low v prefix
+    backed l v xs [] rest a same e u b = tt
+    backed l v xs (f ∷ fs) rest (Ended w) same e u b = absurd (cc)
+    backed l v xs (f ∷ fs) rest (ByAct w act is o a) same e u b =
+        let i : Item = Acts act (Answered (reply_at s.me w.node act)) in
+        let own : is_own i ≡ true = rw o refl in
+        let head : Acts act (Answered (reply_at s.me w.node act)) ≡ f = cc in
+        let tail : is ≡ fs ++ rest = cc in
+        let all : IsBeginning (acts_of (added (And l i) fs)) r = subst (λ (x : Item). IsBeginning (acts_of (added (And l x) fs)) r) (sym head) b in
+        let here = begins_trans (acts_of (And l i)) (acts_of (added (And l i) fs)) r (begins_added (And l i) fs) all in
+        let up : Up low (last_id (node_of (And l i))) = up-trans low (last_id (node_of l)) (last_id (node_of (And l i))) u (up-act s.me (acts_of l) act (reply_at s.me w.node act) o (ap (λ (x : View). reply_at s.me x.node act) e)) in
+        subst (λ (x : Item). AreBacked h s low v (x ∷ fs)) head (
+          subst (λ (x : View). Backs h x.node act (reply_at s.me w.node act)) (sym e) (backs-within (acts_of l) act (reply_at s.me w.node act) o here),
+          backed (And l i) (moved s w i) is fs rest a tail (ap (λ (x : View). moved s x i) e ∙ sym (view_of-And s l i own)) up all,
+        )
+    backed l v xs (f ∷ fs) rest (ByQuiet w i is q a) same e u b =
+        let head : i ≡ f = cc in
+        let tail : is ≡ fs ++ rest = cc in
+        let all : IsBeginning (acts_of (added (And l i) fs)) r = subst (λ (x : Item). IsBeginning (acts_of (added (And l x) fs)) r) (sym head) b in
+        subst (λ (x : Item). AreBacked h s low v (x ∷ fs)) head
+        (quietly w i fs q (subst (λ (x : View). Up low (last_id x.node)) (sym e) u)
+        (backed (And l i) (moved s w i) is fs rest a tail (ap (λ (x : View). moved s x i) e ∙ sym (view_of-And s l i (own-quiet i q))) (subst (λ (g : NodeHistory). Up low (last_id (node_state g))) (sym (quiet_acts l i q)) u) all))
 
   abbrev Stood : Life → Type 0
-  Stood life = Holds h s (CameIn life) (place (view_of s (log_of life)) (processed_of s (log_of life)))
+  Stood life = Holds h s (basis life) (place (view_of s (log_of life)) (processed_of s (log_of life)))
 
   pub record Told (life : Life) : Type 0 where
     pub tells : RepliesTruly h s life
@@ -186,12 +200,12 @@ module _ (h : History) (root : ClusterState) (W : IsSystem (node_history h) root
 
   -- what an event tells that does as the rules say
   keeps-event : (life : Life) (e : Event) → Follows s (Lived life (Did e (items_of s (log_of life) e))) → Told life
-      → Keeps h s (CameIn (Lived life (Did e (items_of s (log_of life) e)))) (view_of s (And (log_of life) (Begins e))) (processed_of s (log_of life)) (items_of s (log_of life) e) (Holds h s (CameIn (Lived life (Did e (items_of s (log_of life) e)))))
+      → Keeps h s (basis (Lived life (Did e (items_of s (log_of life) e)))) (view_of s (And (log_of life) (Begins e))) (processed_of s (log_of life)) (items_of s (log_of life) e) (Holds h s (basis (Lived life (Did e (items_of s (log_of life) e)))))
   keeps-event life e f t =
       let now = Lived life (Did e (items_of s (log_of life) e)) in
-      let before : Holds h s (CameIn (Lived life (Did e (items_of s (log_of life) e)))) (place (view_of s (And (log_of life) (Begins e))) (processed_of s (log_of life))) =
-      holds-more h s (CameIn (Lived life (Did e (items_of s (log_of life) e)))) (CameIn life) (λ c r k. inr k) (place (view_of s (And (log_of life) (Begins e))) (processed_of s (log_of life))) (t.stands f.1.up) in
-      keeps-next h (unique h root W) s (CameIn now) (view_of s (And (log_of life) (Begins e))) (processed_of s (log_of life)) e (λ c r k. inl k) before
+      let before : Holds h s (basis (Lived life (Did e (items_of s (log_of life) e)))) (place (view_of s (And (log_of life) (Begins e))) (processed_of s (log_of life))) =
+      holds-more h s (basis (Lived life (Did e (items_of s (log_of life) e)))) (basis life) (λ c r k. inr k) (place (view_of s (And (log_of life) (Begins e))) (processed_of s (log_of life))) (t.stands f.1.up) in
+      keeps-next h (unique h root W) s (basis now) (view_of s (And (log_of life) (Begins e))) (processed_of s (log_of life)) e (λ c r k. inl k) before
 
   -- the replies of a part of it are true, where the history has the acts of this part
   pub part_true : (life : Life) (e : Event) (prefix rest : List Item) → Follows s (Lived life (Did e (items_of s (log_of life) e))) → Told life → items_of s (log_of life) e ≡ prefix ++ rest
@@ -200,10 +214,10 @@ module _ (h : History) (root : ClusterState) (W : IsSystem (node_history h) root
       let log = And (log_of life) (Begins e) in
       let v = view_of s (And (log_of life) (Begins e)) in
       let items = items_of s (log_of life) e in
-      let told : AllTrue h (CameIn (Lived life (Did e (items_of s (log_of life) e)))) (processed_after_all s (view_of s (And (log_of life) (Begins e))) (processed_of s (log_of life)) (items_of s (log_of life) e)) (replies_of prefix) =
-      (keeps-event life e f t).within prefix rest whole (backed log v items prefix rest (answered-next s v e) whole refl b) in
+      let told : AllTrue h (basis (Lived life (Did e (items_of s (log_of life) e)))) (processed_after_all s (view_of s (And (log_of life) (Begins e))) (processed_of s (log_of life)) (items_of s (log_of life) e)) (replies_of prefix) =
+      (keeps-event life e f t).within prefix rest whole (backed (last_id (node_of (log_of life))) log v items prefix rest (answered-next s v e) whole refl (up-same (last_id (node_of (log_of life)))) b) in
       let processed : processed_of s (added (And (log_of life) (Begins e)) (items_of s (log_of life) e)) ≡ processed_after_all s (view_of s (And (log_of life) (Begins e))) (processed_of s (log_of life)) (items_of s (log_of life) e) = processed-added s log items (own-answered s v items (answered-next s v e)) in
-      all_true_at h s (Lived life (Did e (items_of s (log_of life) e))) f (replies_of prefix) (subst (λ (g : List Waiting). AllTrue h (CameIn (Lived life (Did e (items_of s (log_of life) e)))) g (replies_of prefix)) (sym processed) told)
+      all_true_at h s (Lived life (Did e (items_of s (log_of life) e))) f (replies_of prefix) (subst (λ (g : List Waiting). AllTrue h (basis (Lived life (Did e (items_of s (log_of life) e)))) g (replies_of prefix)) (sym processed) told)
 
   -- an event that does as the rules say
   as_it_does : (life : Life) (e : Event) → Follows s (Lived life (Did e (items_of s (log_of life) e))) → Told life
@@ -213,15 +227,15 @@ module _ (h : History) (root : ClusterState) (W : IsSystem (node_history h) root
       let v = view_of s (And (log_of life) (Begins e)) in
       let items = items_of s (log_of life) e in
       let now = Lived life (Did e (items_of s (log_of life) e)) in
-      let ends : Ends h s (CameIn (Lived life (Did e (items_of s (log_of life) e)))) (view_of s (And (log_of life) (Begins e))) (processed_of s (log_of life)) (items_of s (log_of life) e) (Holds h s (CameIn (Lived life (Did e (items_of s (log_of life) e))))) =
-      (keeps-event life e f t).ends (backed log v items items [] (answered-next s v e) (sym (append-nil items)) refl b) in
+      let ends : Ends h s (basis (Lived life (Did e (items_of s (log_of life) e)))) (view_of s (And (log_of life) (Begins e))) (processed_of s (log_of life)) (items_of s (log_of life) e) (Holds h s (basis (Lived life (Did e (items_of s (log_of life) e))))) =
+      (keeps-event life e f t).ends (backed (last_id (node_of (log_of life))) log v items items [] (answered-next s v e) (sym (append-nil items)) refl (up-same (last_id (node_of (log_of life)))) b) in
       let own = own-answered s v items (answered-next s v e) in
       let processed : processed_of s (added (And (log_of life) (Begins e)) (items_of s (log_of life) e)) ≡ processed_after_all s (view_of s (And (log_of life) (Begins e))) (processed_of s (log_of life)) (items_of s (log_of life) e) = processed-added s log items own in
       record {
-        tells = (t.tells, all_true_at h s now f (replies_of items) (subst (λ (g : List Waiting). AllTrue h (CameIn (Lived life (Did e (items_of s (log_of life) e)))) g (replies_of (items_of s (log_of life) e))) (sym processed) ends.told));
+        tells = (t.tells, all_true_at h s now f (replies_of items) (subst (λ (g : List Waiting). AllTrue h (basis (Lived life (Did e (items_of s (log_of life) e)))) g (replies_of (items_of s (log_of life) e))) (sym processed) ends.told));
         stands = λ u.
-            subst (λ (w : View). Holds h s (CameIn (Lived life (Did e (items_of s (log_of life) e)))) (place w (processed_of s (added (And (log_of life) (Begins e)) (items_of s (log_of life) e))))) (sym (view_of-added s log items own))
-            (subst (λ (g : List Waiting). Holds h s (CameIn (Lived life (Did e (items_of s (log_of life) e)))) (place (moved_all s (view_of s (And (log_of life) (Begins e))) (items_of s (log_of life) e)) g)) (sym processed) ends.stands);
+            subst (λ (w : View). Holds h s (basis (Lived life (Did e (items_of s (log_of life) e)))) (place w (processed_of s (added (And (log_of life) (Begins e)) (items_of s (log_of life) e))))) (sym (view_of-added s log items own))
+            (subst (λ (g : List Waiting). Holds h s (basis (Lived life (Did e (items_of s (log_of life) e)))) (place (moved_all s (view_of s (And (log_of life) (Begins e))) (items_of s (log_of life) e)) g)) (sym processed) ends.stands);
       }
 
   told_event : (life : Life) (e : Event) (is : List Item) → Follows s (Lived life (Did e is)) → Told life → IsBeginning (acts_of (log_of (Lived life (Did e is)))) r → Told (Lived life (Did e is))
@@ -238,17 +252,17 @@ module _ (h : History) (root : ClusterState) (W : IsSystem (node_history h) root
       }
 
   told : (life : Life) → Follows s life → IsBeginning (acts_of (log_of life)) r → Told life
-  told NotBegun f b = record { tells = tt; stands = λ u. holds-idle h s (CameIn NotBegun) _ refl refl refl }
+  told NotBegun f b = record { tells = tt; stands = λ u. holds-idle h s (basis NotBegun) _ refl refl refl }
   told (Opened life found) f b =
       let t = told life f.0 (begins_trans (acts_of (log_of life)) (acts_of (log_of (Opened life found))) r (begins_item (log_of life) (Opens found)) b) in
-      record { tells = t.tells; stands = λ u. holds-idle h s (CameIn (Opened life found)) _ refl refl refl }
+      record { tells = t.tells; stands = λ u. holds-idle h s (basis (Opened life found)) _ refl refl refl }
   told (Lived life (Did e is)) f b =
       let before = begins_trans (acts_of (log_of life)) (acts_of (log_of (Lived life (Did e is)))) r (begins_added (And (log_of life) (Begins e)) is) b in
       told_event life e is f (told life f.0 before) b
-  told (Lived life (Gone conn)) f b = let t = told life f.0 b in record { tells = t.tells; stands = λ u. holds-more h s (CameIn (Lived life (Gone conn))) (CameIn life) (λ c r k. k) _ (t.stands u) }
-  told (Lived life (Bad conn fault)) f b = let t = told life f.0 b in record { tells = t.tells; stands = λ u. holds-more h s (CameIn (Lived life (Bad conn fault))) (CameIn life) (λ c r k. k) _ (t.stands u) }
-  told (Lived life NoMemory) f b = let t = told life f.0 b in record { tells = t.tells; stands = λ u. holds-more h s (CameIn (Lived life NoMemory)) (CameIn life) (λ c r k. k) _ (t.stands u) }
-  told (Lived life (Unread conn)) f b = let t = told life f.0 b in record { tells = t.tells; stands = λ u. holds-more h s (CameIn (Lived life (Unread conn))) (CameIn life) (λ c r k. k) _ (t.stands u) }
+  told (Lived life (Gone conn)) f b = let t = told life f.0 b in record { tells = t.tells; stands = λ u. holds-more h s (basis (Lived life (Gone conn))) (basis life) (λ c r k. k) _ (t.stands u) }
+  told (Lived life (Bad conn fault)) f b = let t = told life f.0 b in record { tells = t.tells; stands = λ u. holds-more h s (basis (Lived life (Bad conn fault))) (basis life) (λ c r k. k) _ (t.stands u) }
+  told (Lived life NoMemory) f b = let t = told life f.0 b in record { tells = t.tells; stands = λ u. holds-more h s (basis (Lived life NoMemory)) (basis life) (λ c r k. k) _ (t.stands u) }
+  told (Lived life (Unread conn)) f b = let t = told life f.0 b in record { tells = t.tells; stands = λ u. holds-more h s (basis (Lived life (Unread conn))) (basis life) (λ c r k. k) _ (t.stands u) }
 
 -- A run was killed within an event. The replies of a part of it are true, where the history has the acts of this part.
 pub part_replies_true : (h : History) (root : ClusterState) → IsSystem (node_history h) root → (s : Settings) (g r : NodeHistory) → (g ≢ NoActs → OpensWith (durable_of g) r) → IsBeginning (then_run g r) (node_history h s.me)

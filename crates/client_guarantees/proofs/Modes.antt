@@ -2,7 +2,6 @@
 use Rattle.std.proofs.Common.{◌≡◌, ℕ, Bool, true, false, None, List, [], ◌∷◌, ◌++◌, refl}
 use Rattle.std.specs.Prelude.{nat_lt, if◌then◌else◌}
 use Rattle.voting_config.specs.Ids.{Id}
-use Rattle.cluster_state.specs.declared.request.Request.{Request}
 use Rattle.master_tasks.specs.declared.waiting.Waiting.{Waiting}
 use Rattle.master_tasks.specs.Answering.{answers_by, failed}
 use Rattle.world_model.specs.declared.acts.Act.{Act}
@@ -16,7 +15,7 @@ use Rattle.policy_model.specs.Events.{ChangesMode}
 use Rattle.policy_model.specs.Views.{View}
 use Rattle.policy_model.specs.Doing as doing
 use Rattle.client_guarantees.proofs.Leading.{IsIdle}
-use Rattle.client_guarantees.proofs.Telling.{Place, place, Keeps, keeps-none, keeps-append, keeps-if, keeps-item, keeps-answers}
+use Rattle.client_guarantees.proofs.Telling.{Basis, Place, place, Keeps, keeps-none, keeps-append, keeps-if, keeps-item, keeps-answers}
 use Rattle.client_guarantees.proofs.Holding.{Holds, holds-idle, idle-holds, holds-refused}
 use Rattle.client_guarantees.proofs.Answers.{true-failed}
 
@@ -29,7 +28,7 @@ not_leader (Follower leader) e = refl
 abbrev IsBare : Place → Type 0
 IsBare x = (x.stands.publication ≡ None) × (x.stands.waiting ≡ [])
 
-module _ (h : History) (s : Settings) (P : ℕ → Request → Type 0) where
+module _ (h : History) (s : Settings) (P : Basis) where
   keeps-turned : (v : View) (g : List Waiting) (Q : Place → Type 0) → ((node : NodeState) → Q (record { stands = record { mode = Candidate; publication = None; node = node; waiting = [] }; processed = g }))
       → Keeps h s P v g (ChangesMode Candidate v.node.term ∷ []) Q
   keeps-turned v g Q q = keeps-item h s P v g (ChangesMode Candidate v.node.term) [] Q refl (λ b. keeps-none h s P _ g Q (q _))
@@ -39,7 +38,7 @@ module _ (h : History) (s : Settings) (P : ℕ → Request → Type 0) where
   keeps-candidate v g Q q = by (doing.is_leader v.mode)
     where
       by : (b : Bool) → Keeps h s P v g ((if b then doing.reply_all s (answers_by (failed v.leader_term) v.tasks.waiting) else []) ++ ChangesMode Candidate v.node.term ∷ []) Q
-      by true = keeps-answers h s P v g _ (ChangesMode Candidate v.node.term ∷ []) Q (true-failed h P g v.leader_term v.tasks.waiting) (keeps-turned v g Q q)
+      by true = keeps-answers h s P v g _ (ChangesMode Candidate v.node.term ∷ []) Q (λ r. true-failed h P g v.leader_term v.tasks.waiting) (keeps-turned v g Q q)
       by false = keeps-turned v g Q q
 
   pub keeps-becomes_candidate : (v : View) (g : List Waiting) → Keeps h s P v g (doing.becomes_candidate s v) (Holds h s P)

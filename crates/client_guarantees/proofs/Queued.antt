@@ -9,7 +9,7 @@ use Rattle.master_tasks.specs.Queue.{arriving}
 use Rattle.master_tasks.specs.Answering.{timed_out, committed_in, exclusion_done}
 use Rattle.policy_model.specs.declared.settings.Settings.{Settings}
 use Rattle.policy_model.specs.declared.events.Mode.TheVariants.{Candidate, Leader, Follower}
-use Rattle.policy_model.specs.Events.{Met, Heard, PeersAsked, ElectionOff, ElectionSet, RoundBegun, RoundAnswered, RoundEnded, Joined, FollowersChecked, FollowerAnswered, LeaderChecked, LeaderAnswered, Queued, ExclusionsTimedOut, CommitAcked, ExclusionsAcked, StateMade, HandedOver, Opens, Begins, Acts, ChangesMode, Drops, Sends, Replies, Notes, Log, NoItems, And}
+use Rattle.policy_model.specs.Events.{Met, Heard, PeersAsked, ElectionOff, ElectionSet, RoundBegun, RoundAnswered, RoundEnded, Joined, FollowersChecked, FollowerAnswered, LeaderChecked, LeaderAnswered, Queued, ExclusionsTimedOut, CommitAcked, ExclusionsAcked, StateMade, HandedOver, PeerLost, LeaderLost, Opens, Begins, Acts, ChangesMode, Drops, Sends, Replies, Notes, Log, NoItems, And}
 use Rattle.policy_model.specs.Parts.{as_master, published_id}
 use Rattle.policy_model.specs.LookBacks.{node_of, moment_of, tasks_of}
 use Rattle.policy_model.proofs.Fits.{waiting-added}
@@ -64,6 +64,8 @@ queued s (And l (Notes CommitAcked)) = record { waiting = each-left (λ w. WasQu
 queued s (And l (Notes ExclusionsAcked)) = record { waiting = each-left (λ w. WasQueued l w.conn w.request) (exclusion_done (node_of l).committed (id_of (node_of l).accepted)) (tasks_of s l).waiting (queued s l).waiting; processed = (queued s l).processed }
 queued s (And l (Notes StateMade)) = record { waiting = each-after (λ w. WasQueued l w.conn w.request) (as_master s (node_of l)) (tasks_of s l) (of-waiting (WasQueued l) (as_master s (node_of l)) (tasks_of s l) (queued s l).waiting); processed = each-append (λ w. WasQueued l w.conn w.request) (processed_of s l) (processed_into_next (as_master s (node_of l)) (tasks_of s l)) (queued s l).processed (of-new (WasQueued l) (as_master s (node_of l)) (tasks_of s l) (queued s l).waiting) }
 queued s (And l (Notes HandedOver)) = record { waiting = (queued s l).waiting; processed = (queued s l).processed }
+queued s (And l (Notes (PeerLost id))) = record { waiting = (queued s l).waiting; processed = (queued s l).processed }
+queued s (And l (Notes (LeaderLost rank))) = record { waiting = (queued s l).waiting; processed = (queued s l).processed }
 
 pub processed_was_queued : (s : Settings) (l : Log) (w : Waiting) → Contains (processed_of s l) w → WasQueued l w.conn w.request
 processed_was_queued s l w c = All-contains (λ (x : Waiting). WasQueued l x.conn x.request) (processed_of s l) w (each-all_of (λ x. WasQueued l x.conn x.request) (processed_of s l) (queued s l).processed) c

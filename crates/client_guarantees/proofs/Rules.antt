@@ -36,7 +36,7 @@ use Rattle.policy_model.specs.declared.settings.Settings.{Settings}
 use Rattle.policy_model.specs.declared.events.Mode.{Mode}
 use Rattle.policy_model.specs.declared.events.Event.{Event}
 use Rattle.policy_model.specs.declared.events.Mode.TheVariants.{Candidate, Leader, Follower}
-use Rattle.policy_model.specs.declared.events.Event.TheVariants.{Start, Tick, Frame as FrameCame, Client as LineCame}
+use Rattle.policy_model.specs.declared.events.Event.TheVariants.{Start, Tick, Frame as FrameCame, Client as LineCame, Disconnected as PeerGone}
 use Rattle.policy_model.specs.Events.{Acts, Notes, LeaderChecked, Queued, ExclusionsTimedOut, CommitAcked, ExclusionsAcked, Met, Heard}
 use Rattle.policy_model.specs.Parts.{published_id}
 use Rattle.policy_model.specs.Views.{View}
@@ -50,17 +50,18 @@ use Rattle.policy_model.specs.Publications as publications
 use Rattle.policy_model.specs.Checks as checks
 use Rattle.policy_model.specs.Requests as requests
 use Rattle.policy_model.specs.Rules as rules
+use Rattle.policy_model.specs.Disconnects as disconnects
 use Rattle.client_guarantees.specs.Asked.{MeetsEach}
-use Rattle.client_guarantees.specs.Processed.{CameBy}
-use Rattle.client_guarantees.proofs.Telling.{place, true-later, grown, keeps-all, Keeps, keeps-none, keeps-append, keeps-then, keeps-if, keeps-item, keeps-steady, keeps-answers, keeps-reply}
+use Rattle.client_guarantees.specs.Processed.{CameBy, last_id}
+use Rattle.client_guarantees.proofs.Telling.{Basis, Up, place, true-later, grown, keeps-all, Keeps, keeps-none, keeps-append, keeps-then, keeps-if, keeps-item, keeps-steady, keeps-answers, keeps-reply}
 use Rattle.client_guarantees.proofs.Leading.{IsDone, won-join}
 use Rattle.client_guarantees.proofs.Folding.{Each, each-last, IsAmong, Of}
 use Rattle.client_guarantees.proofs.Holding.{IsMade, Holds, IsReadyToGo, ready-holds, idle-holds, holds-waiting, holds-publish, holds-commit, holds-response, holds-join, each-left}
-use Rattle.client_guarantees.proofs.Steady.{Calm, Still, steady-if, steady-sends, steady-waits_for_election, steady-pre_vote_reply, steady-on_pre_vote_answer, steady-asks_peers, steady-checks_followers}
+use Rattle.client_guarantees.proofs.Steady.{Standing, steady_stands, Calm, Still, steady-if, steady-sends, steady-waits_for_election, steady-pre_vote_reply, steady-on_pre_vote_answer, steady-asks_peers, steady-checks_followers}
 use Rattle.client_guarantees.proofs.Answers.{left_none, HasDone, true-committed_in, true-exclusion_done, true-timed_out}
 use Rattle.client_guarantees.proofs.Modes.{keeps-becomes_candidate, keeps-becomes_follower, keeps-on_start_join, keeps-raises_term}
 use Rattle.client_guarantees.proofs.Backing.{HasCommittedId, TakesCommit, IsUnique}
-use Rattle.client_guarantees.proofs.GoingOn.{accepted_made, keeps-goes_on, keeps-leads, keeps-takes_member}
+use Rattle.client_guarantees.proofs.GoingOn.{reached, reached_last, accepted_made, keeps-goes_on, keeps-leads, keeps-takes_member}
 
 not_both : {A : Type 0} (t u : ℕ) → t ≡ u → t < u → A
 not_both t u e l = absurd (omega arith)
@@ -84,7 +85,7 @@ queued_made v g w e m = record {
   among = each-last (λ x. x.processed ≡ true → IsAmong m.done x) v.tasks.waiting w m.among (λ t. absurd (both_ways _ e t));
 }
 
-module _ (h : History) (U : IsUnique h) (s : Settings) (P : ℕ → Request → Type 0) where
+module _ (h : History) (U : IsUnique h) (s : Settings) (P : Basis) where
   -- going on between events
   go_on : (v : View) (g : List Waiting) → Holds h s P (place v g) → Keeps h s P v g (next.goes_on s v) (Holds h s P)
   go_on v g i = keeps-goes_on h U s P v g (ready-holds h s P (place v g) i)
@@ -135,8 +136,8 @@ module _ (h : History) (U : IsUnique h) (s : Settings) (P : ℕ → Request → 
       keeps-then h s P v g _ (λ u. publications.accepts s u p state) (Holds h s P) (Holds h s P) (keeps-raises_term h s P v g p state.term i) (λ u g k. keeps-accepts u g p state k)
 
   -- the state of the last commit has what was processed
-  sent_done : (v : View) (g : List Waiting) (m : IsMade h (place v g)) → HasCommittedId h (published_id v.node) → HasDone h g m.done (published_id v.node)
-  sent_done v g m c =
+  sent_done : (v : View) (g : List Waiting) (m : IsMade h (place v g)) → HasCommittedId h (published_id v.node) → Up P.low (published_id v.node) → HasDone h P.low g m.done (published_id v.node)
+  sent_done v g m c u =
       let same = U.same m.as_published c.as_published m.is_in c.is_committed.0 (m.is_id ∙ sym c.is_id) in
       record {
         older = m.older;
@@ -145,27 +146,30 @@ module _ (h : History) (U : IsUnique h) (s : Settings) (P : ℕ → Request → 
         is_committed = c.is_committed;
         is_id = c.is_id;
         had = subst (λ (p : Published). MeetsEach p.state.value m.done) same m.had;
+        since = u;
       }
 
   -- the accepted state has it, where it is the last one
-  accepted_done : (v : View) (g : List Waiting) (m : IsMade h (place v g)) → IsDone h v.node → HasDone h g m.done (id_of v.node.accepted)
-  accepted_done v g m d = record {
+  accepted_done : (v : View) (g : List Waiting) (m : IsMade h (place v g)) → IsDone h v.node → Up P.low (id_of v.node.accepted) → HasDone h P.low g m.done (id_of v.node.accepted)
+  accepted_done v g m d u = record {
     older = m.older;
     processed = m.processed;
     as_published = d.committed.as_published;
     is_committed = d.committed.is_committed;
     is_id = ap id_of d.committed.is_state;
     had = subst (λ (x : ClusterState). MeetsEach x.value m.done) (accepted_made h U s P v g m d ∙ sym d.committed.is_state) m.had;
+    since = u;
   }
 
-  keeps-first_commit : (v : View) (g done : List Waiting) (id : StateId) → HasDone h g done (published_id v.node) → Each (λ w. w.processed ≡ true → IsAmong done w) v.tasks.waiting → Holds h s P (place v g)
+  keeps-first_commit : (v : View) (g done : List Waiting) (id : StateId) → v.node.election_won ≡ true → (Up P.low (published_id v.node) → HasDone h P.low g done (published_id v.node)) → Each (λ w. w.processed ≡ true → IsAmong done w) v.tasks.waiting → Holds h s P (place v g)
       → Keeps h s P v g (publications.sends_first_commit s v id) (Holds h s P)
-  keeps-first_commit v g done id d w i =
+  keeps-first_commit v g done id won d w i =
       let sends = doing.send_all s (among (next.responders_of v.publication) (next.targets_of v.publication)) (message.Commit id) in
       let answers = answers_by (committed_in (published_id v.node)) v.tasks.waiting in
       keeps-append h s P v g (sends ++ doing.reply_all s answers) (Notes CommitAcked ∷ []) (Holds h s P) (Holds h s P)
       (keeps-append h s P v g sends (doing.reply_all s answers) (Holds h s P) (Holds h s P) (keeps-steady h s P v g sends (Holds h s P) (steady-sends s _ _) i)
-      (λ k. keeps-all h s P _ _ answers (Holds h s P) (true-later h P g _ answers (grown s v g sends) (true-committed_in h P g done (published_id v.node) d v.tasks.waiting w)) k))
+      (λ k. keeps-all h s P _ _ answers (Holds h s P)
+      (λ q. true-later h P g _ answers (grown s v g sends) (true-committed_in h P g done (published_id v.node) (d (reached P.low v won (subst (λ (x : Standing). Up P.low (last_id x.node)) (steady_stands s v sends (steady-sends s _ _)) q))) v.tasks.waiting w)) k))
       (λ k. keeps-item h s P _ _ (Notes CommitAcked) [] (Holds h s P) refl (λ b. nothing _ _ (holds-waiting h s P _ _ (left_none _ _) (λ P e. each-left P _ _ e) k)))
 
   keeps-on_response : (v : View) (g : List Waiting) (p : Id) (id : StateId) → Holds h s P (place v g) → Keeps h s P v g (publications.on_response s v p id) (Holds h s P)
@@ -174,12 +178,13 @@ module _ (h : History) (U : IsUnique h) (s : Settings) (P : ℕ → Request → 
       let after = doing.after_act s v act in
       let k = holds-response h s P v g (record { source = p; target = s.me; term = id.term; version = id.version }) (doing.reply_now s v act) i in
       let made : doing.is_leader v.mode && is_some v.publication && has_room v.node.publish_votes p ≡ true → IsMade h (place v g) = λ e. let prefix = and_parts (doing.is_leader v.mode && is_some v.publication) _ e in let parts = and_parts _ _ prefix.0 in i.made parts.0 parts.1 in
+      let won : doing.is_leader v.mode && is_some v.publication && has_room v.node.publish_votes p ≡ true → v.node.election_won ≡ true = λ e. let prefix = and_parts (doing.is_leader v.mode && is_some v.publication) _ e in i.stands.leads.won (and_parts _ _ prefix.0).0 in
       keeps-if h s P v g (doing.is_leader v.mode && is_some v.publication && has_room v.node.publish_votes p) _ [] (Holds h s P)
       (λ e. keeps-item h s P v g (doing.act_now s v act) _ (Holds h s P) refl
       (λ b. keeps-if h s P after g (publications.commits_now (doing.reply_now s v act)) _ [] (Holds h s P)
       (λ c. keeps-if h s P after g (publications.is_commit_sent v.publication) _ _ (Holds h s P)
       (λ t. keeps-steady h s P after g _ (Holds h s P) (Still _ _ refl Calm) k)
-      (λ t. keeps-first_commit after g (made e).done id (sent_done v g (made e) (b c)) (made e).among k))
+      (λ t. keeps-first_commit after g (made e).done id (won e) (sent_done v g (made e) (b c)) (made e).among k))
       (λ c. nothing after g k)))
       (λ e. nothing v g i)
 
@@ -193,7 +198,7 @@ module _ (h : History) (U : IsUnique h) (s : Settings) (P : ℕ → Request → 
           let m = i.made l (ap is_some n) in
           let d : IsDone h v.node = record { committed = c.committed; last = record { term = c.term; version = c.version (i.stands.leads.won l) }; settled = settled } in
           keeps-answers h s P v g _ (Notes ExclusionsAcked ∷ []) (Holds h s P)
-          (true-exclusion_done h P g m.done v.node.committed (id_of v.node.accepted) (accepted_done v g m d) (settled ∙ sym (ap (λ (x : ClusterState). x.config) d.committed.is_state)) v.tasks.waiting m.among)
+          (λ q. true-exclusion_done h P g m.done v.node.committed (id_of v.node.accepted) (accepted_done v g m d (reached_last P.low v (i.stands.leads.won l) d.last q)) (settled ∙ sym (ap (λ (x : ClusterState). x.config) d.committed.is_state)) v.tasks.waiting m.among)
           (keeps-item h s P v g (Notes ExclusionsAcked) [] (Holds h s P) refl (λ b. nothing _ g (holds-waiting h s P (place v g) _ (left_none _ _) (λ P e. each-left P _ _ e) i)))
 
   keeps-told_commit : (v : View) (g : List Waiting) (p : Id) (id : StateId) → Holds h s P (place v g) → Keeps h s P v g (publications.on_commit s v p id) (Holds h s P)
@@ -259,13 +264,13 @@ module _ (h : History) (U : IsUnique h) (s : Settings) (P : ℕ → Request → 
   -- requests
   keeps-times_out : (v : View) (g : List Waiting) → Holds h s P (place v g) → Keeps h s P v g (requests.times_out_exclusions s v) (Holds h s P)
   keeps-times_out v g i =
-      keeps-answers h s P v g _ (Notes ExclusionsTimedOut ∷ []) (Holds h s P) (true-timed_out h P g v.node.committed v.moment v.tasks.waiting)
+      keeps-answers h s P v g _ (Notes ExclusionsTimedOut ∷ []) (Holds h s P) (λ q. true-timed_out h P g v.node.committed v.moment v.tasks.waiting)
       (keeps-item h s P v g (Notes ExclusionsTimedOut) [] (Holds h s P) refl (λ b. nothing _ g (holds-waiting h s P (place v g) _ (left_none _ _) (λ P e. each-left P _ _ e) i)))
 
-  keeps-queues : (v : View) (g : List Waiting) (conn : ℕ) (r : Request) (o : Option ℕ) → doing.is_leader v.mode ≡ true → P conn r → Holds h s P (place v g) → Keeps h s P v g (requests.queues s v conn r o) (Holds h s P)
-  keeps-queues v g conn r (Some length) l q i = keeps-reply h s P v g _ (Holds h s P) tt i
+  keeps-queues : (v : View) (g : List Waiting) (conn : ℕ) (r : Request) (o : Option ℕ) → doing.is_leader v.mode ≡ true → P.came conn r → Holds h s P (place v g) → Keeps h s P v g (requests.queues s v conn r o) (Holds h s P)
+  keeps-queues v g conn r (Some length) l q i = keeps-reply h s P v g _ (Holds h s P) (λ q. tt) i
   keeps-queues v g conn r None l q i =
-      keeps-if h s P v g (is_full_of v.tasks) _ _ (Holds h s P) (λ f. keeps-reply h s P v g _ (Holds h s P) tt i)
+      keeps-if h s P v g (is_full_of v.tasks) _ _ (Holds h s P) (λ f. keeps-reply h s P v g _ (Holds h s P) (λ q. tt) i)
       (λ f. keeps-then h s P v g _ (next.goes_on s) (IsReadyToGo h s P) (Holds h s P)
       (keeps-item h s P v g (Notes (Queued conn r)) [] (IsReadyToGo h s P) refl
       (λ b. keeps-none h s P _ g (IsReadyToGo h s P) (record {
@@ -274,14 +279,14 @@ module _ (h : History) (U : IsUnique h) (s : Settings) (P : ℕ → Request → 
           empty = λ m n w. absurd (both_ways _ (i.stands.barred m n) w);
         };
         made = λ m p. queued_made v g (arriving conn v.moment r) refl (i.made m p);
-        came = each-last (Of P) v.tasks.waiting (arriving conn v.moment r) i.came q;
+        came = each-last (Of P.came) v.tasks.waiting (arriving conn v.moment r) i.came q;
       })))
       (keeps-goes_on h U s P))
 
-  keeps-takes_line : (v : View) (g : List Waiting) (conn : ℕ) (r : Result Request LineFault) → ((a : Request) → r ≡ Ok a → P conn a) → Holds h s P (place v g) → Keeps h s P v g (requests.takes_line s v conn r) (Holds h s P)
-  keeps-takes_line v g conn (Err e) q i = keeps-reply h s P v g _ (Holds h s P) tt i
+  keeps-takes_line : (v : View) (g : List Waiting) (conn : ℕ) (r : Result Request LineFault) → ((a : Request) → r ≡ Ok a → P.came conn a) → Holds h s P (place v g) → Keeps h s P v g (requests.takes_line s v conn r) (Holds h s P)
+  keeps-takes_line v g conn (Err e) q i = keeps-reply h s P v g _ (Holds h s P) (λ q. tt) i
   keeps-takes_line v g conn (Ok r) q i =
-      keeps-if h s P v g (doing.is_leader v.mode) _ _ (Holds h s P) (λ l. keeps-queues v g conn r (bad_setting_of r.ask) l (q r refl) i) (λ l. keeps-reply h s P v g _ (Holds h s P) tt i)
+      keeps-if h s P v g (doing.is_leader v.mode) _ _ (Holds h s P) (λ l. keeps-queues v g conn r (bad_setting_of r.ask) l (q r refl) i) (λ l. keeps-reply h s P v g _ (Holds h s P) (λ q. tt) i)
 
   -- ticks
   keeps-takes_config : (v : View) (g : List Waiting) (o : Option (List Id)) → doing.is_leader v.mode ≡ false → Holds h s P (place v g) → Keeps h s P v g (elections.takes_config s v o) (Holds h s P)
@@ -310,6 +315,20 @@ module _ (h : History) (U : IsUnique h) (s : Settings) (P : ℕ → Request → 
   keeps-ticks v g word Leader e i = keeps-ticks_leader v g i
   keeps-ticks v g word (Follower leader) e i = keeps-checks_leader v g leader v.leader_check i
 
+  -- connections that have ended
+  keeps-loses : (v : View) (g : List Waiting) (p : Id) (m : Mode) → Holds h s P (place v g) → Keeps h s P v g (disconnects.loses s v p m) (Holds h s P)
+  keeps-loses v g p Candidate i = keeps-steady h s P v g _ (Holds h s P) (steady-if _ _ [] (Still _ _ refl Calm) Calm) i
+  keeps-loses v g p Leader i =
+      keeps-if h s P v g _ _ [] (Holds h s P)
+      (λ e. keeps-then h s P v g (disconnects.drops_follower s p) (disconnects.goes_on_with_rest s) (Holds h s P) (Holds h s P)
+      (keeps-steady h s P v g _ (Holds h s P) (Still _ _ refl (Still _ _ refl Calm)) i)
+      (λ u f k. keeps-if h s P u f (disconnects.keeps_quorum s u) _ _ (Holds h s P) (λ d. go_on u f k) (λ d. keeps-becomes_candidate h s P u f)))
+      (λ e. nothing v g i)
+  keeps-loses v g p (Follower leader) i =
+      keeps-if h s P v g (same leader p) _ [] (Holds h s P)
+      (λ e. keeps-append h s P v g _ _ (Holds h s P) (Holds h s P) (keeps-becomes_candidate h s P v g) (λ k. keeps-steady h s P _ _ _ (Holds h s P) (Still _ _ refl Calm) k))
+      (λ e. nothing v g i)
+
   -- a frame, by its message
   keeps-message : (v : View) (g : List Waiting) (p : Id) (m : WireMessage) → Holds h s P (place v g) → Keeps h s P v g (rules.takes_message s v p m) (Holds h s P)
   keeps-message v g p (message.StartJoin candidate term) i = keeps-on_start_join h s P v g candidate term i
@@ -329,8 +348,9 @@ module _ (h : History) (U : IsUnique h) (s : Settings) (P : ℕ → Request → 
   keeps-message v g p (message.LeaderAnswer good) i = keeps-steady h s P v g _ (Holds h s P) (steady-if (doing.follows_node v.mode p) _ [] (Still _ _ refl Calm) Calm) i
 
   -- an event
-  pub keeps-next : (v : View) (g : List Waiting) (e : Event) → ((conn : ℕ) (r : Request) → CameBy e conn r → P conn r) → Holds h s P (place v g) → Keeps h s P v g (rules.next_of s v e) (Holds h s P)
+  pub keeps-next : (v : View) (g : List Waiting) (e : Event) → ((conn : ℕ) (r : Request) → CameBy e conn r → P.came conn r) → Holds h s P (place v g) → Keeps h s P v g (rules.next_of s v e) (Holds h s P)
   keeps-next v g Start q i = keeps-steady h s P v g _ (Holds h s P) (Still _ _ refl (Still _ _ refl Calm)) i
   keeps-next v g (Tick now word) q i = keeps-ticks v g word v.mode refl i
   keeps-next v g (FrameCame frame) q i = keeps-if h s P v g (same frame.to s.me) _ [] (Holds h s P) (λ e. keeps-message v g frame.from frame.message i) (λ e. nothing v g i)
+  keeps-next v g (PeerGone peer) q i = keeps-loses v g peer v.mode i
   keeps-next v g (LineCame conn line) q i = keeps-takes_line v g conn (line_request line) (λ a e. q conn a (refl, e)) i

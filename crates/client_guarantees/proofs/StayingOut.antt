@@ -3,13 +3,12 @@ use Rattle.std.proofs.Common.{◌≡◌, ℕ, zero, suc, Bool, true, false, not,
 use Rattle.std.specs.Prelude.{if◌then◌else◌}
 use Rattle.std.proofs.lemmas.Bool.{or_parts}
 use Rattle.std.proofs.lemmas.List.Folds.{list_any-append}
-use Rattle.voting_config.specs.Ids.{Id, has, same, same_config, among, outside, set_of, is_quorum_of}
+use Rattle.voting_config.specs.Ids.{Id, has, same, same_config, among, outside, is_quorum_of}
 use Rattle.voting_config.proofs.Sets.{same_is, has-set_of}
 use Rattle.cluster_state.specs.declared.state.ClusterState.{ClusterState}
 use Rattle.cluster_state.specs.declared.state.ClusterValue.{ClusterValue}
 use Rattle.reconfigurator.specs.Targets.{candidates_of, chosen_of, size_of, target_of}
-use Rattle.master_tasks.specs.Queue.{Tasks}
-use Rattle.master_tasks.specs.NextState.{Leader as NextMaster, next_value, next_config, config_for}
+use Rattle.master_tasks.specs.NextState.{next_value, next_config, config_for}
 use Rattle.client_guarantees.specs.Laws.{LawExcludedStayOut}
 
 neither : (a b : Bool) → a ≡ false → b ≡ false → (a || b) ≡ false

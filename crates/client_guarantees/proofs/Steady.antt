@@ -16,7 +16,7 @@ use Rattle.world_model.specs.NodeState.{NodeState}
 use Rattle.policy_model.specs.declared.settings.Settings.{Settings}
 use Rattle.policy_model.specs.declared.events.Mode.{Mode}
 use Rattle.policy_model.specs.declared.events.DropCause.{DropCause}
-use Rattle.policy_model.specs.Events.{Note, Met, Heard, PeersAsked, ElectionOff, ElectionSet, RoundBegun, RoundAnswered, RoundEnded, FollowersChecked, FollowerAnswered, LeaderChecked, LeaderAnswered, HandedOver, Item, Opens, Begins, Acts, ChangesMode, Drops, Sends, Replies, Notes}
+use Rattle.policy_model.specs.Events.{Note, Met, Heard, PeersAsked, ElectionOff, ElectionSet, RoundBegun, RoundAnswered, RoundEnded, FollowersChecked, FollowerAnswered, LeaderChecked, LeaderAnswered, HandedOver, PeerLost, LeaderLost, Item, Opens, Begins, Acts, ChangesMode, Drops, Sends, Replies, Notes}
 use Rattle.policy_model.specs.Entries.{replies_in, replies_of}
 use Rattle.policy_model.specs.Views.{View}
 use Rattle.policy_model.specs.Moves.{moved, moved_all}
@@ -51,6 +51,8 @@ is_steady_note (FollowerAnswered from good applied) = true
 is_steady_note LeaderChecked = true
 is_steady_note (LeaderAnswered good) = true
 is_steady_note HandedOver = true
+is_steady_note (PeerLost id) = true
+is_steady_note (LeaderLost rank) = true
 is_steady_note note = false
 
 abbrev pub is_steady : Item → Bool
@@ -93,6 +95,8 @@ note_stands s v (FollowerAnswered from good applied) e = refl
 note_stands s v LeaderChecked e = refl
 note_stands s v (LeaderAnswered good) e = refl
 note_stands s v HandedOver e = refl
+note_stands s v (PeerLost id) e = refl
+note_stands s v (LeaderLost rank) e = refl
 note_stands s v n e = cc
 
 item_stands : (s : Settings) (v : View) (i : Item) → is_steady i ≡ true → standing (moved s v i) ≡ standing v

@@ -17,9 +17,9 @@ use Rattle.master_tasks.specs.declared.waiting.Waiting.{Waiting}
 use Rattle.master_tasks.specs.declared.waiting.Outgoing.{Outgoing}
 use Rattle.world_model.specs.declared.acts.Outcome.TheVariants.{Answered}
 use Rattle.world_model.specs.Histories.{History}
-use Rattle.world_model.specs.Safety.{Published, IsCommitted}
+use Rattle.world_model.specs.Safety.{Published, IsCommitted, IsIdAtMost}
 use Rattle.policy_model.specs.declared.settings.Settings.{Settings}
-use Rattle.policy_model.specs.Events.{Met, Heard, PeersAsked, ElectionOff, ElectionSet, RoundBegun, RoundAnswered, RoundEnded, Joined, FollowersChecked, FollowerAnswered, LeaderChecked, LeaderAnswered, Queued, ExclusionsTimedOut, CommitAcked, ExclusionsAcked, StateMade, HandedOver, Item, Opens, Begins, Acts, ChangesMode, Drops, Sends, Replies, Notes}
+use Rattle.policy_model.specs.Events.{Met, Heard, PeersAsked, ElectionOff, ElectionSet, RoundBegun, RoundAnswered, RoundEnded, Joined, FollowersChecked, FollowerAnswered, LeaderChecked, LeaderAnswered, Queued, ExclusionsTimedOut, CommitAcked, ExclusionsAcked, StateMade, HandedOver, PeerLost, LeaderLost, Item, Opens, Begins, Acts, ChangesMode, Drops, Sends, Replies, Notes}
 use Rattle.policy_model.specs.Parts.{as_master}
 use Rattle.policy_model.specs.Entries.{replies_in, replies_of}
 use Rattle.policy_model.specs.Views.{View}
@@ -27,7 +27,7 @@ use Rattle.policy_model.specs.Moves.{moved, moved_all}
 use Rattle.policy_model.specs.Doing as doing
 use Rattle.policy_model.proofs.Sweeps.{moved_all-append, replies-append}
 use Rattle.client_guarantees.specs.Asked.{MeetsEach, HasNoVoterOf}
-use Rattle.client_guarantees.specs.Processed.{processed_into_next}
+use Rattle.client_guarantees.specs.Processed.{processed_into_next, last_id}
 use Rattle.client_guarantees.specs.Replies.{HasCommitted}
 use Rattle.client_guarantees.proofs.Steady.{Standing, standing, is_steady, IsSteady, Calm, Still, steady_stands, steady_silent}
 use Rattle.client_guarantees.proofs.Backing.{Backs}
@@ -83,6 +83,8 @@ unmade s v g (Notes CommitAcked) e = refl
 unmade s v g (Notes ExclusionsAcked) e = refl
 unmade s v g (Notes StateMade) e = absurd (true≢false e)
 unmade s v g (Notes HandedOver) e = refl
+unmade s v g (Notes (PeerLost id)) e = refl
+unmade s v g (Notes (LeaderLost rank)) e = refl
 
 steady_unmade : (i : Item) → is_steady i ≡ true → is_made i ≡ false
 steady_unmade (Opens found) e = refl
@@ -111,6 +113,8 @@ steady_unmade (Notes CommitAcked) e = refl
 steady_unmade (Notes ExclusionsAcked) e = refl
 steady_unmade (Notes StateMade) e = absurd (true≢false (sym e))
 steady_unmade (Notes HandedOver) e = refl
+steady_unmade (Notes (PeerLost id)) e = refl
+steady_unmade (Notes (LeaderLost rank)) e = refl
 
 -- what was processed stays so
 pub record Grown (g k : List Waiting) : Type 0 where
@@ -144,6 +148,8 @@ grown_item s v g (Notes CommitAcked) = record { more = []; is = sym (append-nil 
 grown_item s v g (Notes ExclusionsAcked) = record { more = []; is = sym (append-nil g) }
 grown_item s v g (Notes StateMade) = record { more = processed_into_next (as_master s v.node) v.tasks; is = refl }
 grown_item s v g (Notes HandedOver) = record { more = []; is = sym (append-nil g) }
+grown_item s v g (Notes (PeerLost id)) = record { more = []; is = sym (append-nil g) }
+grown_item s v g (Notes (LeaderLost rank)) = record { more = []; is = sym (append-nil g) }
 
 grown-trans : (g k l : List Waiting) → Grown g k → Grown k l → Grown g l
 grown-trans g k l a b = record { more = a.more ++ b.more; is = b.is ∙ ap (λ (x : List Waiting). x ++ b.more) a.is ∙ append_assoc g a.more b.more }
@@ -166,8 +172,21 @@ processed-steady s v g xs (Still i is e q) = processed-steady s (moved s v i) (p
 
 -- ---- what is told
 
+-- which requests came, and what the node had published last as the event began
+pub record Basis : Type 1 where
+  pub came : ℕ → Request → Type 0
+  pub low : StateId
+
+-- one id is at most the other
+abbrev pub Up : StateId → StateId → Type 0
+Up a b = IsIdAtMost a.term a.version b.term b.version
+
+-- a node has published this, or more
+abbrev pub HasReached : StateId → View → Type 0
+HasReached low v = Up low (last_id v.node)
+
 -- when a reply is true, by which requests came and which of them were processed
-pub record AckIsTrue (h : History) (processed : List Waiting) (conn number : ℕ) (id : StateId) : Type 0 where
+pub record AckIsTrue (h : History) (low : StateId) (processed : List Waiting) (conn number : ℕ) (id : StateId) : Type 0 where
   pub request : Waiting
   pub earlier : List Waiting
   pub later : List Waiting
@@ -175,47 +194,48 @@ pub record AckIsTrue (h : History) (processed : List Waiting) (conn number : ℕ
   pub is_processed : processed ≡ earlier ++ request ∷ later ++ after
   pub has_conn : request.conn ≡ conn
   pub has_number : request.request.id ≡ number
+  pub since : Up low id
   pub as_published : Published
   pub is_committed : IsCommitted h as_published
   pub is_id : id_of as_published.state ≡ id
   pub meets : MeetsEach as_published.state.value (request ∷ later)
   pub votes : HasNoVoterOf as_published.state.config request.request.ask
 
-pub record StateIsTrue (h : History) (P : ℕ → Request → Type 0) (conn number : ℕ) (state : ClusterState) : Type 0 where
+pub record StateIsTrue (h : History) (P : Basis) (conn number : ℕ) (state : ClusterState) : Type 0 where
   pub request : Request
   pub has_number : request.id ≡ number
   pub is_asked : request.ask ≡ ask.State
-  pub came : P conn request
+  pub came : P.came conn request
   pub committed : HasCommitted h state
 
-abbrev pub AnswerIsTrue : History → (ℕ → Request → Type 0) → List Waiting → ℕ → ℕ → Answer → Type 0
-AnswerIsTrue h P processed conn number (answer.Acked id) = AckIsTrue h processed conn number id
+abbrev pub AnswerIsTrue : History → Basis → List Waiting → ℕ → ℕ → Answer → Type 0
+AnswerIsTrue h P processed conn number (answer.Acked id) = AckIsTrue h P.low processed conn number id
 AnswerIsTrue h P processed conn number (answer.State state) = StateIsTrue h P conn number state
 AnswerIsTrue h P processed conn number other = Unit {0}
 
-abbrev pub ReplyIsTrue : History → (ℕ → Request → Type 0) → List Waiting → ℕ → Reply → Type 0
+abbrev pub ReplyIsTrue : History → Basis → List Waiting → ℕ → Reply → Type 0
 ReplyIsTrue h P processed conn (reply.To number answer) = AnswerIsTrue h P processed conn number answer
 ReplyIsTrue h P processed conn (reply.BadLine fault) = Unit {0}
 
 -- each answer is true
-abbrev Truth : History → (ℕ → Request → Type 0) → List Waiting → Outgoing → Type 0
+abbrev Truth : History → Basis → List Waiting → Outgoing → Type 0
 Truth h P g out = ReplyIsTrue h P g out.conn out.reply
 
-pub record AllTrue (h : History) (P : ℕ → Request → Type 0) (g : List Waiting) (answers : List Outgoing) : Type 0 where
+pub record AllTrue (h : History) (P : Basis) (g : List Waiting) (answers : List Outgoing) : Type 0 where
   pub all : All (λ (out : Outgoing). ReplyIsTrue h P g out.conn out.reply) answers
 
-pub true-none : (h : History) (P : ℕ → Request → Type 0) (g : List Waiting) → AllTrue h P g []
+pub true-none : (h : History) (P : Basis) (g : List Waiting) → AllTrue h P g []
 true-none h P g = record { all = All-nil (Truth h P g) }
 
-pub true-cons : (h : History) (P : ℕ → Request → Type 0) (g : List Waiting) (out : Outgoing) (outs : List Outgoing) → ReplyIsTrue h P g out.conn out.reply → AllTrue h P g outs → AllTrue h P g (out ∷ outs)
+pub true-cons : (h : History) (P : Basis) (g : List Waiting) (out : Outgoing) (outs : List Outgoing) → ReplyIsTrue h P g out.conn out.reply → AllTrue h P g outs → AllTrue h P g (out ∷ outs)
 true-cons h P g out outs t a = record { all = All-cons (Truth h P g) out outs t a.all }
 
-pub true-append : (h : History) (P : ℕ → Request → Type 0) (g : List Waiting) (xs ys : List Outgoing) → AllTrue h P g xs → AllTrue h P g ys → AllTrue h P g (xs ++ ys)
+pub true-append : (h : History) (P : Basis) (g : List Waiting) (xs ys : List Outgoing) → AllTrue h P g xs → AllTrue h P g ys → AllTrue h P g (xs ++ ys)
 true-append h P g xs ys a b = record { all = All-append (Truth h P g) xs ys a.all b.all }
 
 -- what is true stays true when more is processed
-granted_later : (h : History) (g k : List Waiting) (conn number : ℕ) (id : StateId) → Grown g k → AckIsTrue h g conn number id → AckIsTrue h k conn number id
-granted_later h g k conn number id m t = record {
+granted_later : (h : History) (low : StateId) (g k : List Waiting) (conn number : ℕ) (id : StateId) → Grown g k → AckIsTrue h low g conn number id → AckIsTrue h low k conn number id
+granted_later h low g k conn number id m t = record {
   request = t.request;
   earlier = t.earlier;
   later = t.later;
@@ -225,6 +245,7 @@ granted_later h g k conn number id m t = record {
       ∙ append_assoc (t.earlier ++ t.request ∷ t.later) t.after m.more;
   has_conn = t.has_conn;
   has_number = t.has_number;
+  since = t.since;
   as_published = t.as_published;
   is_committed = t.is_committed;
   is_id = t.is_id;
@@ -232,8 +253,8 @@ granted_later h g k conn number id m t = record {
   votes = t.votes;
 }
 
-answer_later : (h : History) (P : ℕ → Request → Type 0) (g k : List Waiting) (conn number : ℕ) (a : Answer) → Grown g k → AnswerIsTrue h P g conn number a → AnswerIsTrue h P k conn number a
-answer_later h P g k conn number (answer.Acked id) m t = granted_later h g k conn number id m t
+answer_later : (h : History) (P : Basis) (g k : List Waiting) (conn number : ℕ) (a : Answer) → Grown g k → AnswerIsTrue h P g conn number a → AnswerIsTrue h P k conn number a
+answer_later h P g k conn number (answer.Acked id) m t = granted_later h P.low g k conn number id m t
 answer_later h P g k conn number (answer.State state) m t = t
 answer_later h P g k conn number (answer.NotMaster leader) m t = tt
 answer_later h P g k conn number (answer.BadSetting length) m t = tt
@@ -244,11 +265,11 @@ answer_later h P g k conn number (answer.StillMember id) m t = tt
 answer_later h P g k conn number (answer.FailedToCommit term) m t = tt
 answer_later h P g k conn number (answer.ExclusionTimeout ids) m t = tt
 
-reply_later : (h : History) (P : ℕ → Request → Type 0) (g k : List Waiting) (conn : ℕ) (r : Reply) → Grown g k → ReplyIsTrue h P g conn r → ReplyIsTrue h P k conn r
+reply_later : (h : History) (P : Basis) (g k : List Waiting) (conn : ℕ) (r : Reply) → Grown g k → ReplyIsTrue h P g conn r → ReplyIsTrue h P k conn r
 reply_later h P g k conn (reply.To number a) m t = answer_later h P g k conn number a m t
 reply_later h P g k conn (reply.BadLine fault) m t = tt
 
-pub true-later : (h : History) (P : ℕ → Request → Type 0) (g k : List Waiting) (outs : List Outgoing) → Grown g k → AllTrue h P g outs → AllTrue h P k outs
+pub true-later : (h : History) (P : Basis) (g k : List Waiting) (outs : List Outgoing) → Grown g k → AllTrue h P g outs → AllTrue h P k outs
 true-later h P g k [] m a = true-none h P k
 true-later h P g k (out ∷ outs) m a =
     true-cons h P k out outs (reply_later h P g k out.conn out.reply m (All-head (Truth h P g) out outs a.all)) (true-later h P g k outs m (record { all = All-tail (Truth h P g) out outs a.all }))
@@ -287,10 +308,11 @@ splits (x ∷ xs) ys (f ∷ fs) rest e = from (splits xs ys fs rest tail)
     from (Within more q) = Within more (λ i. head i ∷ q i)
     from (Beyond more p q) = Beyond more (λ i. sym head i ∷ p i) q
 
-module _ (h : History) (s : Settings) where
-  -- the history backs each act
+module _ (h : History) (s : Settings) (low : StateId) where
+  -- the history backs each act, and who replies has published that much
   abbrev pub IsBacked : View → Item → Type 0
   IsBacked v (Acts act (Answered reply)) = Backs h v.node act reply
+  IsBacked v (Replies answer) = HasReached low v
   IsBacked v i = Unit {0}
 
   abbrev pub AreBacked : View → List Item → Type 0
@@ -301,7 +323,7 @@ module _ (h : History) (s : Settings) where
   backed_parts v [] ys b = (tt, b)
   backed_parts v (x ∷ xs) ys b = let rest = backed_parts (moved s v x) xs ys b.1 in ((b.0, rest.0), rest.1)
 
-module _ (h : History) (s : Settings) (P : ℕ → Request → Type 0) where
+module _ (h : History) (s : Settings) (P : Basis) where
   pub record Ends (v : View) (g : List Waiting) (is : List Item) (Q : Place → Type 0) : Type 0 where
     pub told : AllTrue h P (processed_after_all s v g is) (replies_of is)
     pub stands : Q (place (moved_all s v is) (processed_after_all s v g is))
@@ -309,8 +331,8 @@ module _ (h : History) (s : Settings) (P : ℕ → Request → Type 0) where
   -- Where the history backs their acts, the items tell what is true of what was processed by their end, and leave a node that was v so that Q. Where it
   -- backs the acts of a prefix, what that tells is true.
   pub record Keeps (v : View) (g : List Waiting) (is : List Item) (Q : Place → Type 0) : Type 0 where
-    pub ends : AreBacked h s v is → Ends v g is Q
-    pub within : (prefix rest : List Item) → is ≡ prefix ++ rest → AreBacked h s v prefix → AllTrue h P (processed_after_all s v g is) (replies_of prefix)
+    pub ends : AreBacked h s P.low v is → Ends v g is Q
+    pub within : (prefix rest : List Item) → is ≡ prefix ++ rest → AreBacked h s P.low v prefix → AllTrue h P (processed_after_all s v g is) (replies_of prefix)
 
   pub keeps-none : (v : View) (g : List Waiting) (Q : Place → Type 0) → Q (place v g) → Keeps v g [] Q
   keeps-none v g Q q = record {
@@ -320,9 +342,9 @@ module _ (h : History) (s : Settings) (P : ℕ → Request → Type 0) where
 
   pub keeps-append : (v : View) (g : List Waiting) (xs ys : List Item) (R Q : Place → Type 0) → Keeps v g xs R
       → (R (place (moved_all s v xs) (processed_after_all s v g xs)) → Keeps (moved_all s v xs) (processed_after_all s v g xs) ys Q) → Keeps v g (xs ++ ys) Q
-  keeps-append v g xs ys R Q a next = record { ends = λ b. from (backed_parts h s v xs ys b); within = λ prefix rest e b. part prefix rest b (splits xs ys prefix rest e) }
+  keeps-append v g xs ys R Q a next = record { ends = λ b. from (backed_parts h s P.low v xs ys b); within = λ prefix rest e b. part prefix rest b (splits xs ys prefix rest e) }
     where
-      from : AreBacked h s v xs × AreBacked h s (moved_all s v xs) ys → Ends v g (xs ++ ys) Q
+      from : AreBacked h s P.low v xs × AreBacked h s P.low (moved_all s v xs) ys → Ends v g (xs ++ ys) Q
       from b =
           let first = a.ends b.0 in
           let second = (next first.stands).ends b.1 in
@@ -337,14 +359,14 @@ module _ (h : History) (s : Settings) (P : ℕ → Request → Type 0) where
                 (subst (λ (u : View). Q (place u l)) (sym (moved_all-append s v xs ys)) second.stands);
           }
 
-      part : (prefix rest : List Item) → AreBacked h s v prefix → Splits xs ys prefix rest → AllTrue h P (processed_after_all s v g (xs ++ ys)) (replies_of prefix)
+      part : (prefix rest : List Item) → AreBacked h s P.low v prefix → Splits xs ys prefix rest → AllTrue h P (processed_after_all s v g (xs ++ ys)) (replies_of prefix)
       part prefix rest b (Within more q) =
           let k = processed_after_all s v g xs in
           let l = processed_after_all s (moved_all s v xs) k ys in
           subst (λ (p : List Waiting). AllTrue h P p (replies_of prefix)) (sym (processed-append s v g xs ys))
           (true-later h P k l (replies_of prefix) (grown s (moved_all s v xs) k ys) (a.within prefix more q b))
       part prefix rest b (Beyond more p q) =
-          let both = backed_parts h s v xs more (subst (λ (f : List Item). AreBacked h s v f) p b) in
+          let both = backed_parts h s P.low v xs more (subst (λ (f : List Item). AreBacked h s P.low v f) p b) in
           let first = a.ends both.0 in
           let second = (next first.stands).within more rest q both.1 in
           let k = processed_after_all s v g xs in
@@ -362,7 +384,7 @@ module _ (h : History) (s : Settings) (P : ℕ → Request → Type 0) where
   keeps-if v g false xs ys Q k l = l refl
 
   -- an item that tells nothing, and then the others
-  pub keeps-item : (v : View) (g : List Waiting) (i : Item) (is : List Item) (Q : Place → Type 0) → replies_in i ≡ [] → (IsBacked h s v i → Keeps (moved s v i) (processed_after s v g i) is Q) → Keeps v g (i ∷ is) Q
+  pub keeps-item : (v : View) (g : List Waiting) (i : Item) (is : List Item) (Q : Place → Type 0) → replies_in i ≡ [] → (IsBacked h s P.low v i → Keeps (moved s v i) (processed_after s v g i) is Q) → Keeps v g (i ∷ is) Q
   keeps-item v g i is Q silent next = record {
     ends = λ b.
         let rest = (next b.0).ends b.1 in
@@ -370,12 +392,12 @@ module _ (h : History) (s : Settings) (P : ℕ → Request → Type 0) where
     within = part;
   }
     where
-      part : (prefix rest : List Item) → i ∷ is ≡ prefix ++ rest → AreBacked h s v prefix → AllTrue h P (processed_after_all s v g (i ∷ is)) (replies_of prefix)
+      part : (prefix rest : List Item) → i ∷ is ≡ prefix ++ rest → AreBacked h s P.low v prefix → AllTrue h P (processed_after_all s v g (i ∷ is)) (replies_of prefix)
       part [] rest e b = true-none h P (processed_after_all s v g (i ∷ is))
       part (f ∷ fs) rest e b =
           let head : i ≡ f = cc in
           let tail : is ≡ fs ++ rest = cc in
-          let own : AreBacked h s v (i ∷ fs) = subst (λ (x : Item). AreBacked h s v (x ∷ fs)) (sym head) b in
+          let own : AreBacked h s P.low v (i ∷ fs) = subst (λ (x : Item). AreBacked h s P.low v (x ∷ fs)) (sym head) b in
           subst (λ (x : Item). AllTrue h P (processed_after_all s v g (i ∷ is)) (replies_of (x ∷ fs))) head
           (subst (λ (l : List Outgoing). AllTrue h P (processed_after_all s v g (i ∷ is)) (l ++ replies_of fs)) (sym silent) ((next own.0).within fs rest tail own.1))
 
@@ -390,38 +412,38 @@ module _ (h : History) (s : Settings) (P : ℕ → Request → Type 0) where
   }
 
   -- a reply that is true of what is processed by the end, and what comes after it
-  keeps-first : (v : View) (g : List Waiting) (out : Outgoing) (is : List Item) (Q : Place → Type 0) → ReplyIsTrue h P (processed_after_all s v g is) out.conn out.reply → Keeps v g is Q
+  keeps-first : (v : View) (g : List Waiting) (out : Outgoing) (is : List Item) (Q : Place → Type 0) → (HasReached P.low v → ReplyIsTrue h P (processed_after_all s v g is) out.conn out.reply) → Keeps v g is Q
       → Keeps v g (Replies out ∷ is) Q
   keeps-first v g out is Q t k = record {
     ends = λ b.
         let more = k.ends b.1 in
-        record { told = true-cons h P (processed_after_all s v g is) out (replies_of is) t more.told; stands = more.stands };
+        record { told = true-cons h P (processed_after_all s v g is) out (replies_of is) (t b.0) more.told; stands = more.stands };
     within = part;
   }
     where
-      part : (prefix rest : List Item) → Replies out ∷ is ≡ prefix ++ rest → AreBacked h s v prefix → AllTrue h P (processed_after_all s v g is) (replies_of prefix)
+      part : (prefix rest : List Item) → Replies out ∷ is ≡ prefix ++ rest → AreBacked h s P.low v prefix → AllTrue h P (processed_after_all s v g is) (replies_of prefix)
       part [] rest e b = true-none h P (processed_after_all s v g is)
       part (f ∷ fs) rest e b =
           let head : Replies out ≡ f = cc in
           let tail : is ≡ fs ++ rest = cc in
-          let own : AreBacked h s v (Replies out ∷ fs) = subst (λ (x : Item). AreBacked h s v (x ∷ fs)) (sym head) b in
+          let own : AreBacked h s P.low v (Replies out ∷ fs) = subst (λ (x : Item). AreBacked h s P.low v (x ∷ fs)) (sym head) b in
           subst (λ (x : Item). AllTrue h P (processed_after_all s v g is) (replies_of (x ∷ fs))) head
-          (true-cons h P (processed_after_all s v g is) out (replies_of fs) t (k.within fs rest tail own.1))
+          (true-cons h P (processed_after_all s v g is) out (replies_of fs) (t own.0) (k.within fs rest tail own.1))
 
   -- replies that are true so, and what comes after them
-  pub keeps-replies : (v : View) (g : List Waiting) (answers : List Outgoing) (rest : List Item) (Q : Place → Type 0) → AllTrue h P (processed_after_all s v g rest) answers → Keeps v g rest Q
+  pub keeps-replies : (v : View) (g : List Waiting) (answers : List Outgoing) (rest : List Item) (Q : Place → Type 0) → (HasReached P.low v → AllTrue h P (processed_after_all s v g rest) answers) → Keeps v g rest Q
       → Keeps v g (doing.reply_all s answers ++ rest) Q
   keeps-replies v g [] rest Q a k = k
   keeps-replies v g (out ∷ outs) rest Q a k =
       keeps-first v g out (doing.reply_all s outs ++ rest) Q
-      (subst (λ (p : List Waiting). ReplyIsTrue h P p out.conn out.reply) (sym (past s v g outs rest)) (All-head (Truth h P (processed_after_all s v g rest)) out outs a.all))
-      (keeps-replies v g outs rest Q (record { all = All-tail (Truth h P (processed_after_all s v g rest)) out outs a.all }) k)
+      (λ r. subst (λ (p : List Waiting). ReplyIsTrue h P p out.conn out.reply) (sym (past s v g outs rest)) (All-head (Truth h P (processed_after_all s v g rest)) out outs (a r).all))
+      (keeps-replies v g outs rest Q (λ r. record { all = All-tail (Truth h P (processed_after_all s v g rest)) out outs (a r).all }) k)
 
-  pub keeps-answers : (v : View) (g : List Waiting) (answers : List Outgoing) (rest : List Item) (Q : Place → Type 0) → AllTrue h P g answers → Keeps v g rest Q → Keeps v g (doing.reply_all s answers ++ rest) Q
-  keeps-answers v g answers rest Q a k = keeps-replies v g answers rest Q (true-later h P g (processed_after_all s v g rest) answers (grown s v g rest) a) k
+  pub keeps-answers : (v : View) (g : List Waiting) (answers : List Outgoing) (rest : List Item) (Q : Place → Type 0) → (HasReached P.low v → AllTrue h P g answers) → Keeps v g rest Q → Keeps v g (doing.reply_all s answers ++ rest) Q
+  keeps-answers v g answers rest Q a k = keeps-replies v g answers rest Q (λ r. true-later h P g (processed_after_all s v g rest) answers (grown s v g rest) (a r)) k
 
-  pub keeps-all : (v : View) (g : List Waiting) (answers : List Outgoing) (Q : Place → Type 0) → AllTrue h P g answers → Q (place v g) → Keeps v g (doing.reply_all s answers) Q
+  pub keeps-all : (v : View) (g : List Waiting) (answers : List Outgoing) (Q : Place → Type 0) → (HasReached P.low v → AllTrue h P g answers) → Q (place v g) → Keeps v g (doing.reply_all s answers) Q
   keeps-all v g answers Q a k = subst (λ (l : List Item). Keeps v g l Q) (append-nil (doing.reply_all s answers)) (keeps-answers v g answers [] Q a (keeps-none v g Q k))
 
-  pub keeps-reply : (v : View) (g : List Waiting) (out : Outgoing) (Q : Place → Type 0) → ReplyIsTrue h P g out.conn out.reply → Q (place v g) → Keeps v g (Replies out ∷ []) Q
+  pub keeps-reply : (v : View) (g : List Waiting) (out : Outgoing) (Q : Place → Type 0) → (HasReached P.low v → ReplyIsTrue h P g out.conn out.reply) → Q (place v g) → Keeps v g (Replies out ∷ []) Q
   keeps-reply v g out Q t k = keeps-first v g out [] Q t (keeps-none v g Q k)

@@ -1,4 +1,5 @@
 pub mod Asked
 pub mod Processed
 pub mod Replies
+pub mod Lasting
 pub mod Laws

@@ -1,18 +1,20 @@
 -- Part of the statement: which requests a node processed into the states that it made, and by which lines requests came.
-use Rattle.std.specs.Prelude.{◌≡◌, ◌⊎◌, ℕ, Ok, List, [], ◌∷◌, ◌++◌, true, if◌then◌else◌}
+use Rattle.std.specs.Prelude.{◌≡◌, ◌⊎◌, ℕ, Ok, List, [], ◌∷◌, ◌++◌, true, cond, if◌then◌else◌}
 use Rattle.cluster_state.specs.declared.state.ClusterState.{ClusterState}
 use Rattle.cluster_state.specs.declared.state.ClusterValue.{ClusterValue}
+use Rattle.cluster_state.specs.declared.state.StateId.{StateId}
 use Rattle.cluster_state.specs.declared.request.Request.{Request}
 use Rattle.client_lines.specs.Reading.{line_request}
 use Rattle.master_tasks.specs.declared.waiting.Waiting.{Waiting}
 use Rattle.master_tasks.specs.Queue.{Tasks}
 use Rattle.master_tasks.specs.Processing.{Processing, AnsweredAtOnce, Makes, processing_once, value_after}
 use Rattle.master_tasks.specs.NextState.{Leader as NextMaster, value_before}
+use Rattle.world_model.specs.NodeState.{NodeState}
 use Rattle.policy_model.specs.declared.settings.Settings.{Settings}
 use Rattle.policy_model.specs.declared.events.Event.{Event}
 use Rattle.policy_model.specs.declared.events.Event.TheVariants.{Client as LineCame}
 use Rattle.policy_model.specs.Events.{Opens, Notes, StateMade, Log, NoItems, And}
-use Rattle.policy_model.specs.Entries.{Life, NotBegun, Opened, Lived, Did}
+use Rattle.policy_model.specs.Entries.{Life, NotBegun, Opened, Lived, Did, log_of}
 use Rattle.policy_model.specs.Parts.{as_master}
 use Rattle.policy_model.specs.LookBacks.{node_of, tasks_of}
 
@@ -50,3 +52,16 @@ CameIn NotBegun conn request = ⊥
 CameIn (Opened life found) conn request = ⊥
 CameIn (Lived life (Did event items)) conn request = CameBy event conn request ⊎ CameIn life conn request
 CameIn (Lived life entry) conn request = CameIn life conn request
+
+-- The id of the state that a node published last in its term. It is that of the state on which it won before it publishes one, with the new
+-- term; and with version 0 where it has won no election of its term.
+abbrev pub last_id : NodeState → StateId
+last_id node = record { term = node.term; version = cond node.election_won node.published_version 0 }
+
+-- such a line came since the node was opened last, and this was then the id of what it had published last
+abbrev pub CameAt : Life → ℕ → Request → StateId → Type 0
+CameAt NotBegun conn request newest = ⊥
+CameAt (Opened life found) conn request newest = ⊥
+CameAt (Lived life (Did event items)) conn request newest =
+    (CameBy event conn request × (newest ≡ last_id (node_of (log_of life)))) ⊎ CameAt life conn request newest
+CameAt (Lived life entry) conn request newest = CameAt life conn request newest

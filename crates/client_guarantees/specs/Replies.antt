@@ -13,12 +13,12 @@ use Rattle.cluster_state.specs.declared.reply.Reply.TheVariants as reply
 use Rattle.master_tasks.specs.declared.waiting.Waiting.{Waiting}
 use Rattle.master_tasks.specs.declared.waiting.Outgoing.{Outgoing}
 use Rattle.world_model.specs.Histories.{History}
-use Rattle.world_model.specs.Safety.{Published, IsCommitted}
+use Rattle.world_model.specs.Safety.{Published, IsCommitted, IsIdAtMost}
 use Rattle.policy_model.specs.declared.settings.Settings.{Settings}
 use Rattle.policy_model.specs.Events.{Item}
 use Rattle.policy_model.specs.Entries.{Life, NotBegun, Opened, Lived, Did, log_of, replies_of}
 use Rattle.client_guarantees.specs.Asked.{MeetsEach, HasNoVoterOf}
-use Rattle.client_guarantees.specs.Processed.{processed_of, CameIn}
+use Rattle.client_guarantees.specs.Processed.{processed_of, CameIn, CameAt}
 
 -- the state is committed: some node published it and sent its commit
 pub record HasCommitted (h : History) (state : ClusterState) : Type 0 where
@@ -27,14 +27,16 @@ pub record HasCommitted (h : History) (state : ClusterState) : Type 0 where
   pub is_state : as_published.state ≡ state
 
 -- What an ack of this id says to a connection, of a request's number: since the node was opened last, a line with such a request
--- came by this connection, and the node processed it. A committed state of this id has what the request asks for, unless one of
--- those processed later, up to where the state was made, may have undone it; and so it has what each of these asks for. Where nodes
--- are to be excluded from voting, none of them votes in that state.
+-- came by this connection, and the node processed it. The id is at least that of what the node had published last as the line came. A
+-- committed state of this id has what the request asks for, unless one of those processed later may have undone it; and so it has what
+-- each of these asks for. Where nodes are to be excluded from voting, none of them votes in that state.
 pub record IsAcked (h : History) (s : Settings) (life : Life) (conn number : ℕ) (id : StateId) : Type 0 where
   pub request : Waiting
   pub has_conn : request.conn ≡ conn
   pub has_number : request.request.id ≡ number
-  pub came : CameIn life conn request.request
+  pub newest : StateId
+  pub came : CameAt life conn request.request newest
+  pub since : IsIdAtMost newest.term newest.version id.term id.version
   pub earlier : List Waiting
   pub later : List Waiting
   pub after : List Waiting
