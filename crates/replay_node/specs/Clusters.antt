@@ -14,7 +14,7 @@ use Rattle.world_model.specs.Settled.{is_kept}
 use Rattle.replay_node.specs.Worlds.{World, fresh_world, node_world, crashed, ordered, opened}
 use Rattle.policy_model.specs.declared.settings.Settings.{Settings}
 use Rattle.policy_model.specs.declared.events.Event.{Event}
-use Rattle.policy_model.specs.declared.events.Event.TheVariants.{Start, Tick, Frame as FrameCame, Client as LineCame}
+use Rattle.policy_model.specs.declared.events.Event.TheVariants.{Start, Tick, Frame as FrameCame, Client as LineCame, Disconnected as PeerGone}
 use Rattle.policy_model.specs.Entries.{Life, NotBegun, Opened, Lived, Did, log_of, frames_of}
 use Rattle.policy_model.specs.Follows.{items_of}
 use Rattle.replay_node.specs.Course.{Course, played, settled_life}
@@ -100,6 +100,7 @@ module _ (nodes initial voting_only : List Id) where
   abbrev pub after : Cluster → Line → Cluster
   after c (line.Tick n now word) = after_event_if_up (settings_of nodes initial voting_only n) c (Tick now word)
   after c (line.Client n bytes) = after_event_if_up (settings_of nodes initial voting_only n) c (LineCame 0 bytes)
+  after c (line.Disconnect n peer) = after_event_if_up (settings_of nodes initial voting_only n) c (PeerGone peer)
   after c (line.Deliver n number) = after_frame (settings_of nodes initial voting_only n) c (frame_at c number)
   after c (line.Crash n way) = record c { world = crashed c.world n way }
   after c (line.Restart n) = after_restart (settings_of nodes initial voting_only n) c
