@@ -12,6 +12,7 @@ use Rattle.publication.specs.Publications.{Publication}
 use Rattle.pre_vote.specs.Replies.{reply_to}
 use Rattle.voting_config.specs.Ids.{Id, is_id, has, same, with_id, is_quorum_of, most_ids, IsIdSet, among, has_room}
 use Rattle.bootstrap.specs.Decisions.{decision_of}
+use Rattle.fault_checks.specs.Followers.{ids_of as follower_ids}
 use Rattle.peer_finder.specs.Peers.{answered_set, free_set, known_set}
 use Rattle.cluster_state.specs.Fields.{ids as ids_field}
 use Rattle.cluster_state.specs.JoinCheck.{is_empty}
@@ -47,10 +48,10 @@ use Rattle.policy_model.specs.declared.settings.Settings.{Settings}
 use Rattle.policy_model.specs.declared.events.Mode.{Mode}
 use Rattle.policy_model.specs.declared.events.Mode.TheVariants.{Candidate, Leader, Follower}
 use Rattle.policy_model.specs.declared.events.Event.{Event}
-use Rattle.policy_model.specs.declared.events.Event.TheVariants.{Start, Tick, Frame as FrameCame, Client as LineCame}
+use Rattle.policy_model.specs.declared.events.Event.TheVariants.{Start, Tick, Frame as FrameCame, Client as LineCame, Disconnected as PeerGone}
 use Rattle.policy_model.specs.declared.events.DropCause.{DropCause}
-use Rattle.policy_model.specs.declared.events.DropCause.TheVariants.{Checks, Lag}
-use Rattle.policy_model.specs.Events.{Note, Met, Heard, HandedOver, RoundEnded, RoundBegun, RoundAnswered, ElectionSet, ElectionOff, PeersAsked, ExclusionsAcked, FollowersChecked, ExclusionsTimedOut, Joined, Queued, LeaderChecked, StateMade, CommitAcked, Item, ChangesMode, Drops, Sends, Replies, Notes}
+use Rattle.policy_model.specs.declared.events.DropCause.TheVariants.{Checks, Lag, Disconnect}
+use Rattle.policy_model.specs.Events.{Note, Met, Heard, HandedOver, PeerLost, RoundEnded, RoundBegun, RoundAnswered, ElectionSet, ElectionOff, PeersAsked, ExclusionsAcked, FollowersChecked, ExclusionsTimedOut, Joined, Queued, LeaderChecked, StateMade, CommitAcked, Item, ChangesMode, Drops, Sends, Replies, Notes}
 use Rattle.policy_model.specs.Parts.{as_master}
 use Rattle.policy_model.specs.Views.{View}
 use Rattle.policy_model.specs.Moves.{moved, moved_all, noted, mode_changed}
@@ -63,11 +64,12 @@ use Rattle.policy_model.specs.Publications as publications
 use Rattle.policy_model.specs.Checks as checks
 use Rattle.policy_model.specs.Requests as requests
 use Rattle.policy_model.specs.Rules as rules
+use Rattle.policy_model.specs.Disconnects as disconnects
 use Rattle.cluster_replay.proofs.NextFits.{IsGoodAsk, IsGoodRequest, next-value-fits, next-config-fits}
 use Rattle.system_laws.proofs.Meant.{Covers, sent_after, covers-after}
 use Rattle.system_laws.proofs.Sending.{known, start-sends, value-sends, publish-sends, response-sends}
 use Rattle.cluster_replay.proofs.Fits.{each-with_id}
-use Rattle.cluster_replay.proofs.Naming.{AllIds, NamedView, NamesMaster, NamesMessage, NamesMode, NamesPublication, all-free, all-known, peers-met, some-followers}
+use Rattle.cluster_replay.proofs.Naming.{AllIds, NamedView, NamesMaster, NamesMessage, NamesMode, NamesPublication, all-free, all-known, id-among, peers-met, some-followers}
 use Rattle.cluster_replay.proofs.Allowing.{members-fit, FitView, FitNote, IsGoodFrame, IsSentBy, IsAllowed, Ended, ByAct, BySend, ByReply, ByTurn, ByDrop, ByNote, fit-acted, fit-mode_changed, fit-noted, fit-moved, allowed-append}
 
 -- ---- items that neither act nor change what may be sent or kept
@@ -501,11 +503,24 @@ module _ (s : Settings) (mine : is_id s.me ≡ true) (initial : IsIdSet s.initia
   allowed-message ms v p (message.LeaderCheck term) f t = BySend ms v p _ _ t.from tt tt (Ended ms v)
   allowed-message ms v p (message.LeaderAnswer good) f t = allowed-when ms v (doing.follows_node v.mode p) _ [] (λ e. ByNote ms v _ _ tt (Ended ms _)) (Ended ms v)
 
+  -- connections that have ended
+  allowed-loses : (ms : List Message) (v : View) (p : Id) (m : Mode) → FitView v → IsAllowed s ms v (disconnects.loses s v p m)
+  allowed-loses ms v p Candidate f = allowed-calm s ms v _ (calm-if s _ _ [] (Noting (PeerLost p) [] refl Silent) Silent)
+  allowed-loses ms v p Leader f =
+      allowed-when ms v (has p (follower_ids v.followers.watched)) _ []
+      (λ e. allowed-then ms v (disconnects.drops_follower s p) (disconnects.goes_on_with_rest s) f
+      (allowed-calm s ms v _ (Dropping p Disconnect _ (id-among p (follower_ids v.followers.watched) f.names.watched e) (Noting (PeerLost p) [] refl Silent)))
+      (λ u ns g c. allowed-when ns u (disconnects.keeps_quorum s u) _ _ (λ d. allowed-goes_on ns u g) (allowed-calm s ns u _ (calm-becomes_candidate s u))))
+      (Ended ms v)
+  allowed-loses ms v p (Follower leader) f =
+      allowed-calm s ms v _ (calm-if s (same leader p) _ [] (calm-append s _ _ (calm-becomes_candidate s v) (Noting _ [] refl Silent)) Silent)
+
 -- what a node may be handed, when these messages were sent
 abbrev pub MayCome : List Message → Event → Type 0
 MayCome ms Start = Unit {0}
 MayCome ms (Tick now word) = Unit {0}
 MayCome ms (FrameCame frame) = IsGoodFrame ms frame × ((state : ClusterState) → frame.message ≡ message.Publish state → state_field.Fits state)
+MayCome ms (PeerGone peer) = Unit {0}
 MayCome ms (LineCame conn line) = (request : Request) → line_request line ≡ Ok request → IsGoodAsk request.ask
 
 module _ (s : Settings) (mine : is_id s.me ≡ true) (peers : AllIds s.peers) (initial : IsIdSet s.initial) where
@@ -521,4 +536,5 @@ module _ (s : Settings) (mine : is_id s.me ≡ true) (peers : AllIds s.peers) (i
   allowed-next ms v Start f t = ByNote ms v (Met s.peers) _ peers (ByNote ms _ (Met v.node.accepted.value.members) _ (members-fit v.node.accepted.value f.node.accepted.value) (Ended ms _))
   allowed-next ms v (Tick now word) f t = allowed-ticks s mine initial ms v word v.mode f f.names.mode
   allowed-next ms v (FrameCame frame) f t = allowed-frame ms v frame f t
+  allowed-next ms v (PeerGone peer) f t = allowed-loses s mine initial ms v peer v.mode f
   allowed-next ms v (LineCame conn line) f t = allowed-takes_line s mine initial ms v conn (line_request line) f t

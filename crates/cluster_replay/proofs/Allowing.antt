@@ -1,10 +1,10 @@
 -- What each item of an event may be: a node takes the messages that it was handed, bootstraps with the initial names, sends what its acts
 -- send, and what it keeps fits into a body.
-use Rattle.std.proofs.Common.{◌≡◌, ℕ, ◌+◌, ◌≤◌, Bool, true, false, cond, ◌||◌, Option, None, Some, List, [], ◌∷◌, ◌++◌, max, refl, length, arith}
+use Rattle.std.proofs.Common.{◌≡◌, ℕ, ◌+◌, ◌≤◌, Bool, true, false, cond, not, ◌||◌, Option, None, Some, List, [], ◌∷◌, ◌++◌, max, refl, length, arith}
 use Rattle.std.specs.Prelude.{nat_lt, if◌then◌else◌}
 use Rattle.std.specs.List.{list_all, flat_map, AllByRecursion, Contains}
 use Rattle.std.proofs.lemmas.Bool.{and_parts, and_from}
-use Rattle.voting_config.specs.Ids.{Id, is_id, has, with_id, without_id, most_ids, IsIdSet, has_room, with_room}
+use Rattle.voting_config.specs.Ids.{Id, is_id, has, same, with_id, without_id, most_ids, IsIdSet, has_room, with_room}
 use Rattle.voting_config.proofs.Kept.{list_all-filter}
 use Rattle.cluster_state.specs.Field.{last_number}
 use Rattle.cluster_state.specs.Fields.{ids}
@@ -12,6 +12,7 @@ use Rattle.cluster_state.specs.declared.state.ClusterState.{ClusterState}
 use Rattle.cluster_state.specs.declared.state.ClusterValue.{ClusterValue}
 use Rattle.cluster_state.specs.declared.state.StateId.{StateId}
 use Rattle.peer_finder.specs.Peers.{PeerFinder, ids_of as peer_ids}
+use Rattle.fault_checks.specs.declared.followers.Follower.{Follower as WatchedNode}
 use Rattle.fault_checks.specs.Followers.{Followers, ids_of as follower_ids}
 use Rattle.publication.specs.Publications.{Publication}
 use Rattle.cluster_state.specs.States.{id_of, state as state_field, value as value_field}
@@ -40,7 +41,7 @@ use Rattle.policy_model.specs.declared.settings.Settings.{Settings}
 use Rattle.policy_model.specs.declared.events.Mode.{Mode}
 use Rattle.policy_model.specs.declared.events.Mode.TheVariants.{Candidate, Leader, Follower}
 use Rattle.policy_model.specs.declared.events.DropCause.{DropCause}
-use Rattle.policy_model.specs.Events.{Note, Met, Heard, PeersAsked, ElectionOff, ElectionSet, RoundBegun, RoundAnswered, RoundEnded, Joined, FollowersChecked, FollowerAnswered, LeaderChecked, LeaderAnswered, Queued, ExclusionsTimedOut, CommitAcked, ExclusionsAcked, StateMade, HandedOver, Item, Acts, ChangesMode, Drops, Sends, Replies, Notes}
+use Rattle.policy_model.specs.Events.{Note, Met, Heard, PeersAsked, ElectionOff, ElectionSet, RoundBegun, RoundAnswered, RoundEnded, Joined, FollowersChecked, FollowerAnswered, LeaderChecked, LeaderAnswered, Queued, ExclusionsTimedOut, CommitAcked, ExclusionsAcked, StateMade, HandedOver, PeerLost, LeaderLost, Item, Acts, ChangesMode, Drops, Sends, Replies, Notes}
 use Rattle.policy_model.specs.Entries.{frames_in}
 use Rattle.policy_model.specs.Joins.{join_from}
 use Rattle.policy_model.specs.Parts.{all_to_be_added, as_master, finished, followers_ticked, follower_answered, heard, met, peers_asked, responded, state_finished}
@@ -50,7 +51,7 @@ use Rattle.policy_model.specs.Moves.{moved, moved_all, acted, mode_changed, note
 use Rattle.system_laws.proofs.Meant.{Covers, sent_after, covers-after}
 use Rattle.trace_text.proofs.IdLists.{none_set}
 use Rattle.cluster_replay.proofs.Fits.{set-fits, set-with, set-with_known}
-use Rattle.cluster_replay.proofs.Naming.{AllIds, NamedView, NamesAct, NamesItem, NamesMessage, NamesMode, NamesPublication, all-room, answered-id, followers-mapped, followers-stay, members-watched, peers-forgotten, peers-heard, peers-met}
+use Rattle.cluster_replay.proofs.Naming.{AllIds, NamedView, NamesAct, NamesItem, NamesMessage, NamesMode, NamesPublication, all-room, answered-id, followers-mapped, followers-stay, members-watched, peers-forgotten, peers-heard, peers-met, peers-unanswered, some-followers}
 use Rattle.cluster_replay.proofs.NextFits.{fit-either, fit-initial, fit-state, IsGoodRequest, FitTasks, FitAccepted, good-left, set-rooms, fit-after}
 
 -- ---- what fits
@@ -190,7 +191,14 @@ fit-acted s v (Bootstrap config) o f a = record {
 fit-acted s v (StartJoin candidate term) o f a = record {
   node = fit-act v.node (StartJoin candidate term) o f.node a;
   tasks = f.tasks;
-  names = with-node v (node_state_after v.node (StartJoin candidate term) o) (small-if (is_effective o) (max term v.node.term) v.node.term (omega (arith, a.1, f.names.term)) f.names.term) f.names.version f.names;
+  names = record {
+    term = small-if (is_effective o) (max term v.node.term) v.node.term (omega (arith, a.1, f.names.term)) f.names.term;
+    version = f.names.version;
+    mode = f.names.mode;
+    peers = f.names.peers;
+    publication = f.names.publication;
+    watched = f.names.watched;
+  };
 }
 fit-acted s v (TakeJoin join) o f a = record { node = fit-act v.node (TakeJoin join) o f.node a; tasks = f.tasks; names = with-node v (node_state_after v.node (TakeJoin join) o) f.names.term f.names.version f.names }
 fit-acted s v (Value version config value) o f a =
@@ -293,6 +301,8 @@ fit-noted s v CommitAcked f n = record { node = f.node; tasks = fit-left _ v.tas
 fit-noted s v ExclusionsAcked f n = record { node = f.node; tasks = fit-left _ v.tasks f.tasks; names = record { term = f.names.term; version = f.names.version; mode = f.names.mode; peers = f.names.peers; publication = f.names.publication; watched = f.names.watched } }
 fit-noted s v StateMade f n = record { node = f.node; tasks = fit-after (as_master s v.node) v.tasks f.tasks; names = record { term = f.names.term; version = f.names.version; mode = f.names.mode; peers = f.names.peers; publication = f.names.publication; watched = f.names.watched } }
 fit-noted s v HandedOver f n = record { node = f.node; tasks = f.tasks; names = record { term = f.names.term; version = f.names.version; mode = f.names.mode; peers = f.names.peers; publication = f.names.publication; watched = f.names.watched } }
+fit-noted s v (PeerLost id) f n = record { node = f.node; tasks = f.tasks; names = record { term = f.names.term; version = f.names.version; mode = f.names.mode; peers = peers-unanswered id v.finder.peers f.names.peers; publication = f.names.publication; watched = some-followers (λ (x : WatchedNode). not (same x.id id)) v.followers.watched f.names.watched } }
+fit-noted s v (LeaderLost rank) f n = record { node = f.node; tasks = f.tasks; names = record { term = f.names.term; version = f.names.version; mode = f.names.mode; peers = f.names.peers; publication = f.names.publication; watched = f.names.watched } }
 
 pub fit-moved : (s : Settings) (ms : List Message) (v : View) (is : List Item) → IsAllowed s ms v is → FitView v → FitView (moved_all s v is)
 fit-moved s ms v is (Ended ms' v') f = f

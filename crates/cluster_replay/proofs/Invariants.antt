@@ -13,7 +13,7 @@ use Rattle.replay_node.specs.Worlds.{World, node_world}
 use Rattle.master_tasks.proofs.Limits.{each_append}
 use Rattle.policy_model.specs.declared.settings.Settings.{Settings}
 use Rattle.policy_model.specs.declared.events.Event.{Event}
-use Rattle.policy_model.specs.declared.events.Event.TheVariants.{Start, Tick, Frame as FrameCame, Client as LineCame}
+use Rattle.policy_model.specs.declared.events.Event.TheVariants.{Start, Tick, Frame as FrameCame, Client as LineCame, Disconnected as PeerGone}
 use Rattle.policy_model.specs.Events.{Begins, Item, And, acts_of}
 use Rattle.policy_model.specs.Entries.{Life, Lived, Did, log_of, frames_in, frames_of}
 use Rattle.policy_model.specs.Views.{view_of}
@@ -117,6 +117,7 @@ module _ (s : Settings) (mine : is_id s.me ≡ true) (peers : AllIds s.peers) (i
   fit_begun (Tick now word) f = record { node = f.node; tasks = f.tasks; names = record { term = f.names.term; version = f.names.version; mode = f.names.mode; peers = f.names.peers; publication = f.names.publication; watched = f.names.watched } }
   fit_begun (FrameCame frame) f = f
   fit_begun (LineCame conn line) f = f
+  fit_begun (PeerGone peer) f = f
 
   fit : FitView (view_of s (And (log_of life) (Begins e)))
   fit = subst FitView (sym begins) (fit_begun e waits.ready.view)

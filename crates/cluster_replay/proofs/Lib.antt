@@ -5,8 +5,10 @@ pub mod Fits
 pub mod Invariants
 pub mod JsonStrings
 pub mod JsonTexts
+pub mod Lasting
 pub mod Naming
 pub mod NextFits
+pub mod Outside
 pub mod Playing
 pub mod Schedules
 pub mod Somes

@@ -1,9 +1,9 @@
 -- Whom a node knows, and what it says and does names, have ids; and the terms in it are within the limits.
-use Rattle.std.proofs.Common.{◌≡◌, ℕ, ◌+◌, ◌≤◌, Bool, true, false, cond, Option, None, Some, List, [], ◌∷◌, ◌++◌, map, filter, refl, sym, subst}
+use Rattle.std.proofs.Common.{◌≡◌, ℕ, ◌+◌, ◌≤◌, Bool, true, false, cond, ◌||◌, Option, None, Some, List, [], ◌∷◌, ◌++◌, map, filter, refl, sym, subst}
 use Rattle.std.specs.Prelude.{if◌then◌else◌, is_none, length, nat_lt}
 use Rattle.std.specs.List.{list_all, AllByRecursion}
 use Rattle.std.proofs.lemmas.Bool.{and_parts, and_from}
-use Rattle.voting_config.specs.Ids.{Id, is_id, same, set_of, with_id, with_room, most_ids}
+use Rattle.voting_config.specs.Ids.{Id, is_id, has, same, set_of, with_id, with_room, most_ids}
 use Rattle.voting_config.proofs.Sets.{same_is}
 use Rattle.cluster_state.specs.Field.{last_number}
 use Rattle.cluster_state.specs.declared.state.StateId.{StateId}
@@ -16,7 +16,7 @@ use Rattle.wire_frames.specs.declared.frame.Frame.{Frame}
 use Rattle.wire_frames.specs.declared.frame.WireMessage.{WireMessage as FrameMessage}
 use Rattle.wire_frames.specs.declared.frame.WireMessage.TheVariants as message
 use Rattle.peer_finder.specs.declared.Peer.{Peer}
-use Rattle.peer_finder.specs.Peers.{PeerFinder, is_new_peer, known_set, free_set, with_answer, without_answer, is_free, ids_of as peer_ids}
+use Rattle.peer_finder.specs.Peers.{PeerFinder, is_new_peer, known_set, free_set, with_answer, without_answer, unanswered, is_free, ids_of as peer_ids}
 use Rattle.fault_checks.specs.declared.followers.Follower.{Follower}
 use Rattle.fault_checks.specs.Checks.{ticked_at}
 use Rattle.fault_checks.specs.Followers.{stays, answered_from, answered_by, ids_of as follower_ids, stayed, watched_or_new}
@@ -147,6 +147,12 @@ answered_id id master p = from (same p.id id)
 pub peers-heard : (id : Id) (master : Option Id) (ps : List Peer) → AllIds (peer_ids ps) → AllIds (peer_ids (map (λ (p : Peer). with_answer id master p) ps))
 peers-heard id master ps h = subst AllIds (sym (same_peers (λ (p : Peer). with_answer id master p) (answered_id id master) ps)) h
 
+unanswered_id : (id : Id) (p : Peer) → (unanswered id p).id ≡ p.id
+unanswered_id id p = elim (same p.id id) as (λ b. (if b then without_answer p else p).id ≡ p.id) [ true ↦ refl | false ↦ refl ]
+
+pub peers-unanswered : (id : Id) (ps : List Peer) → AllIds (peer_ids ps) → AllIds (peer_ids (map (λ (p : Peer). unanswered id p) ps))
+peers-unanswered id ps h = subst AllIds (sym (same_peers (λ (p : Peer). unanswered id p) (unanswered_id id) ps)) h
+
 pub peers-forgotten : (ps : List Peer) → AllIds (peer_ids ps) → AllIds (peer_ids (map (λ (p : Peer). without_answer p) ps))
 peers-forgotten ps h = subst AllIds (sym (same_peers (λ (p : Peer). without_answer p) (λ p. refl) ps)) h
 
@@ -229,3 +235,13 @@ answered-id from finished good applied now f = outer (same f.id from)
     outer : (b : Bool) → (if b then answered_by f finished good applied now else f).id ≡ f.id
     outer true = answered_same f finished good applied now
     outer false = refl
+
+pub id-among : (n : Id) (ids : List Id) → AllIds ids → has n ids ≡ true → is_id n ≡ true
+id-among n [] h e = absurd cc
+id-among n (x ∷ xs) h e =
+    let parts = and_parts (is_id x) (list_all is_id xs) h in
+    from (same x n) refl e parts.0 (λ k. id-among n xs parts.1 k)
+  where
+    from : (b : Bool) → same x n ≡ b → (b || has n xs) ≡ true → is_id x ≡ true → (has n xs ≡ true → is_id n ≡ true) → is_id n ≡ true
+    from true e k i rest = subst (λ (y : Id). is_id y ≡ true) (same_is x n e) i
+    from false e k i rest = rest k

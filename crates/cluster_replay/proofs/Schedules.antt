@@ -34,7 +34,7 @@ use Rattle.replay_node.proofs.Moves.{NodeMoves, moves_crashed, moves_ordered, mo
 use Rattle.replay_node.proofs.NodeSound.{found_either}
 use Rattle.policy_model.specs.declared.settings.Settings.{Settings}
 use Rattle.policy_model.specs.declared.events.Event.{Event}
-use Rattle.policy_model.specs.declared.events.Event.TheVariants.{Start, Tick, Frame as FrameCame, Client as LineCame}
+use Rattle.policy_model.specs.declared.events.Event.TheVariants.{Start, Tick, Frame as FrameCame, Client as LineCame, Disconnected as PeerGone}
 use Rattle.policy_model.specs.Events.{acts_of}
 use Rattle.policy_model.specs.Entries.{Life, Opened, log_of}
 use Rattle.policy_model.specs.Follows.{is_start}
@@ -265,6 +265,7 @@ module _ (nodes initial voting_only : List Id) (ids : IsIdSet nodes) (set : IsId
   pub line_sound : (c : Cluster) (l : Line) → has (node_of l) nodes ≡ true → SoundCluster nodes initial voting_only c → SoundCluster nodes initial voting_only (after nodes initial voting_only c l)
   line_sound c (line.Tick n now word) f h = line_event n (Tick now word) c f refl tt h
   line_sound c (line.Client n bytes) f h = line_event n (LineCame 0 bytes) c f refl (good-asks bytes) h
+  line_sound c (line.Disconnect n peer) f h = line_event n (PeerGone peer) c f refl tt h
   line_sound c (line.Deliver n number) f h = line_frame n (number - 1) (frame_at c number) c f refl h
   line_sound c (line.Crash n way) f h = line_crash n way c f h
   line_sound c (line.Restart n) f h = (line_restart n c f h).0

@@ -14,6 +14,7 @@ use Rattle.cluster_replay.specs.Laws.{IsWellFormed, node_of}
 is_listed : (nodes : List Id) (l : Line) → FitsLine Node nodes l → has (node_of l) nodes ≡ true
 is_listed nodes (line.Tick n now word) f = f.0
 is_listed nodes (line.Client n bytes) f = f.0
+is_listed nodes (line.Disconnect n peer) f = f.0
 is_listed nodes (line.Deliver n number) f = f.0
 is_listed nodes (line.Crash n way) f = f.0
 is_listed nodes (line.Restart n) f = f

@@ -17,12 +17,12 @@ use Rattle.policy_model.specs.Entries.{Life, Lived, Did, log_of, replies_of}
 use Rattle.policy_model.specs.Follows.{items_of}
 use Rattle.client_guarantees.specs.Laws.{IsRunIn}
 use Rattle.client_guarantees.specs.Replies.{IsTrueReply}
-use Rattle.client_guarantees.proofs.Laws.{replies_are_true, part_replies_are_true}
+use Rattle.client_guarantees.proofs.Laws.{replies_are_true, part_replies_are_true, restarted_replies_are_true}
 use Rattle.client_guarantees.proofs.Running.{Rest, rest-of}
 use Rattle.system_laws.specs.Systems.{history_of, IsDoneOf, Killed, InAct, Also, Unsent, Unanswered}
-use Rattle.system_laws.proofs.RunsKept.{IsOfNode, had-lived, IsKilledOf, was-killed}
-use Rattle.system_laws.proofs.Assembly.{lives_assemble}
-use Rattle.cluster_replay.specs.SystemReplies.{LawSystemRepliesAreTrue, LawKilledRepliesAreTrue}
+use Rattle.system_laws.proofs.RunsKept.{going, going-from, IsOfNode, had-lived, IsKilledOf, was-killed}
+use Rattle.system_laws.proofs.Assembly.{lives_assemble, lives_assemble_from}
+use Rattle.cluster_replay.specs.SystemReplies.{LawSystemRepliesAreTrue, LawKilledRepliesAreTrue, LawRestartedSystemRepliesAreTrue}
 
 run-in : (h : History) (n : Id) (s : Settings) (life : Life) → IsOfNode (node_history h n) n s life → IsRunIn h s life
 run-in h n s life r =
@@ -32,12 +32,12 @@ run-in h n s life r =
       before = r.before;
       after = rest.after;
       acts = ap (λ (x : Id). node_history h x) r.me ∙ rest.acts;
-      begins = λ some. r.opens;
+      begins = r.opens;
     }
 
 pub system_replies_are_true : LawSystemRepliesAreTrue
 system_replies_are_true initial h is n s life lived =
-    replies_are_true initial (history_of h) (lives_assemble initial h is) s life (run-in (history_of h) n s life (had-lived initial h is.runs n s life lived))
+    replies_are_true initial (history_of h) (lives_assemble initial h is) s life (run-in (history_of h) n s life (had-lived initial h (going initial h is.runs) n s life lived))
 
 -- ---- killed within an event
 
@@ -96,9 +96,16 @@ part-of l k items done e (Unanswered answer rest some d) =
 
 pub killed_replies_are_true : LawKilledRepliesAreTrue
 killed_replies_are_true initial h is n s life event done was =
-    let k : IsKilledOf (node_history (history_of h) n) n s life event done = was-killed initial h is.runs n s life event done was in
+    let k : IsKilledOf (node_history (history_of h) n) n s life event done = was-killed initial h (going initial h is.runs) n s life event done was in
     let part = part-of (And (log_of life) (Begins event)) (And (log_of life) (Begins event)) (items_of s (log_of life) event) done refl k.did in
     part.answers (λ (out : Outgoing). IsTrueReply (history_of h) s (Lived life (Did event (items_of s (log_of life) event))) out.conn out.reply)
-    (part_replies_are_true initial (history_of h) (lives_assemble initial h is) s k.before (acts_of (added (And (log_of life) (Begins event)) done)) (λ some. k.opens)
+    (part_replies_are_true initial (history_of h) (lives_assemble initial h is) s k.before (acts_of (added (And (log_of life) (Begins event)) done)) k.opens
     (subst (λ (x : Id). IsBeginning (then_run k.before (acts_of (added (And (log_of life) (Begins event)) done))) (node_history (history_of h) x)) (sym k.me) k.begins)
     life event part.prefix part.rest k.follows part.whole part.acts)
+
+-- ---- from the restart of one node on
+
+pub restarted_system_replies_are_true : LawRestartedSystemRepliesAreTrue
+restarted_system_replies_are_true first kept h alone is n s life lived =
+    restarted_replies_are_true first kept (history_of h) alone (lives_assemble_from first kept h is) s life
+    (run-in (history_of h) n s life (had-lived [] h (going-from first kept h is.runs) n s life lived))

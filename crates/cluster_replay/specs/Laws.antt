@@ -14,6 +14,7 @@ use Rattle.client_guarantees.specs.Replies.{RepliesTruly}
 abbrev pub node_of : Line → Id
 node_of (line.Tick n now word) = n
 node_of (line.Client n bytes) = n
+node_of (line.Disconnect n peer) = n
 node_of (line.Deliver n number) = n
 node_of (line.Crash n way) = n
 node_of (line.Restart n) = n

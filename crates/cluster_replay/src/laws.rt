@@ -1,7 +1,19 @@
 //! What holds of each schedule of whole nodes, and of what nodes over a network reply. The calls do nothing: what they
 //! promise is proved.
 ghost use Rattle.cluster_replay.specs.Laws.{LawClusterRepliesAreTrue, LawClusterReplayIsLegal, LawLivesFollow, LawVotingOnlyNeverWins};
-ghost use Rattle.cluster_replay.specs.SystemReplies.{LawKilledRepliesAreTrue, LawSystemRepliesAreTrue};
+ghost use Rattle.cluster_replay.specs.Lasting.{
+  LawClusterAcksLast,
+  LawClusterSettingsLast,
+  LawRestartedAcksLast,
+  LawRestartedSettingsLast,
+  LawSystemAcksLast,
+  LawSystemSettingsLast,
+};
+ghost use Rattle.cluster_replay.specs.SystemReplies.{
+  LawKilledRepliesAreTrue,
+  LawRestartedSystemRepliesAreTrue,
+  LawSystemRepliesAreTrue,
+};
 
 /// Wherever its nodes crash and their disks fail, each node of a schedule lives by the policy, and the history has just
 /// the acts of these lives.
@@ -35,4 +47,42 @@ pub fn law_system_replies_are_true()
 /// Of an event within which a node was killed, each reply that it sent is true, also where acts were still to come.
 pub fn law_killed_replies_are_true()
     ensures { LawKilledRepliesAreTrue }
+{}
+
+/// In a schedule of whole nodes, each published state whose id is not below that of a committed one was made of it, one
+/// state over another, and under each key it has what the last of the requests says that were processed into these.
+pub fn law_cluster_settings_last()
+    ensures { LawClusterSettingsLast }
+{}
+
+/// So what an ack of a put or a remove says is there in each committed state from the id of the ack on, until a later
+/// request that was processed sets or removes the key.
+pub fn law_cluster_acks_last()
+    ensures { LawClusterAcksLast }
+{}
+
+/// The same of a system of nodes, each of whose runs follows the policy.
+pub fn law_system_settings_last()
+    ensures { LawSystemSettingsLast }
+{}
+
+/// And of its acks.
+pub fn law_system_acks_last()
+    ensures { LawSystemAcksLast }
+{}
+
+/// Each reply of each run of each node is true too in a system that one node begins alone, restarted from what it kept, as
+/// by the tools.
+pub fn law_restarted_system_replies_are_true()
+    ensures { LawRestartedSystemRepliesAreTrue }
+{}
+
+/// And what is committed, and acked, there lasts.
+pub fn law_restarted_settings_last()
+    ensures { LawRestartedSettingsLast }
+{}
+
+/// The same of its acks.
+pub fn law_restarted_acks_last()
+    ensures { LawRestartedAcksLast }
 {}

@@ -8,5 +8,12 @@ fn the_laws_can_be_called() {
     law_cluster_replay_is_legal();
     law_cluster_replies_are_true();
     law_system_replies_are_true();
+    law_cluster_settings_last();
+    law_cluster_acks_last();
+    law_system_settings_last();
+    law_system_acks_last();
+    law_restarted_system_replies_are_true();
+    law_restarted_settings_last();
+    law_restarted_acks_last();
     law_killed_replies_are_true();
 }
