@@ -10,7 +10,7 @@ use Rattle.world_model.specs.declared.acts.Outcome.TheVariants.{Answered}
 use Rattle.world_model.specs.Acts.{NodeHistory, NoActs, Then}
 use Rattle.world_model.specs.NodeState.{halted_of}
 use Rattle.world_model.specs.Histories.{History, NoEntries, Next, node_history, sent, is_down, MayHappen, IsLegal}
-use Rattle.world_model.specs.Safety.{Win, winners}
+use Rattle.world_model.specs.Safety.{winners}
 use Rattle.schedule_text.specs.declared.schedule.Line.TheVariants as line
 use Rattle.rescue_plan.specs.declared.answer.Plan.{Plan}
 use Rattle.rescue_plan.specs.Planning.{planned}

@@ -5,6 +5,7 @@ pub mod Named
 pub mod Numbers
 pub mod Planned
 pub mod Rescue
+pub mod Rule
 pub mod Stages
 pub mod Steps
 pub mod Sweeps

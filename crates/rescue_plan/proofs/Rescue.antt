@@ -17,24 +17,25 @@ use Rattle.world_model.specs.declared.acts.Message.TheVariants.{Join as JoinMess
 use Rattle.world_model.specs.declared.acts.ActReply.TheVariants.{Taken}
 use Rattle.world_model.specs.declared.acts.Outcome.TheVariants.{Answered}
 use Rattle.world_model.specs.Acts.{NodeHistory, Then}
-use Rattle.world_model.specs.NodeState.{node_state, term_of, accepted_of, committed_of, join_votes_of, election_won_of, published_version_of, initial_state}
+use Rattle.world_model.specs.NodeState.{node_state, term_of, accepted_of, committed_of, join_votes_of, election_won_of, published_version_of}
 use Rattle.cluster_state.specs.Field.{last_number}
 use Rattle.world_model.specs.Replies.{id_of, elects, commit_sent, reply_of, is_taken}
-use Rattle.world_model.specs.Histories.{History, Next, node_history, sent, sent_by, IsLegal, IsPrefix}
+use Rattle.world_model.specs.Histories.{History, Next, node_history, sent, sent_by, IsPrefix}
 use Rattle.world_model.specs.Safety.{winners, Published, published, published_by, IsCommitted}
 use Rattle.voting_config.proofs.Sets.{same_is}
 use Rattle.world_model.proofs.Moments.{Begins, begins_self}
 use Rattle.world_model.proofs.Durable.{accepted_below}
-use Rattle.world_model.proofs.Legal.{own_deeds, prefix_self, prefix_trans, sent_to, system_of_legal, one_of, none_of, act_begins, Listed, listed}
+use Rattle.world_model.proofs.Legal.{own_deeds, prefix_self, prefix_trans, sent_to, system_of_grounded, one_of, none_of, act_begins, Listed, listed}
 use Rattle.world_model.proofs.Rounds.{request_below}
 use Rattle.world_model.proofs.System.{IsSystem}
-use Rattle.world_model.proofs.FactsOfLegal.{facts_of_legal}
+use Rattle.world_model.proofs.FactsHold.{facts_of_system}
 use Rattle.agreement.proofs.Elections.{alone}
 use Rattle.agreement.proofs.Terms.{agree_terms}
 use Rattle.world_model.proofs.Durable.{quorum_named}
 use Rattle.rescue_plan.specs.Lines.{answered}
+use Rattle.rescue_plan.proofs.Rule.{Rule, answers, acts_later}
 use Rattle.rescue_plan.proofs.Steps.{Step, carried, AllTaken, sweep, gather, greatest_term, rescue_term, join_of, new_state, new_request, response_of, value_step, plan, CanRescue, Rescues, joins_sent}
-use Rattle.rescue_plan.proofs.Sweeps.{carried-append, taken-append, prefix_step, prefix_carried, sent_grows, published_grows, other_deeds, may_answer, Swept, swept, Gathers, Gathered, gathered, all_with, all_with_has}
+use Rattle.rescue_plan.proofs.Sweeps.{carried-append, taken-append, prefix_step, prefix_carried, sent_grows, published_grows, other_deeds, Swept, swept, Gathers, Gathered, gathered, all_with, all_with_has}
 use Rattle.rescue_plan.proofs.Taking.{start_taken, join_taken, value_taken, publish_taken, response_taken}
 use Rattle.rescue_plan.proofs.Stages.{winners_grow, is_both, both_grow, Collects, collects_next, collects_first, Awaits, awaits_next, awaits_first, Waits, waits_after_start, Publishes, publishes_after_value}
 
@@ -83,18 +84,18 @@ publishes_by p n (Answered (Taken (Some (PublishMessage r)) w)) q c =
 publishes_by p n o q c = none_of q c
 
 -- the term of a state is not above its publisher's
-published_below : (initial : List Id) (h : History) → IsLegal initial h → (q : Published) → Contains (published h) q → q.state.term ≤ term_of (node_history h q.publisher)
-published_below initial h l q c = from (listed published (λ p n a o. published_by p n o) refl (λ p n a o. refl) h q c)
+published_below : (R : Rule) (h : History) → R.Right h → (q : Published) → Contains (published h) q → q.state.term ≤ term_of (node_history h q.publisher)
+published_below R h l q c = from (listed published (λ p n a o. published_by p n o) refl (λ p n a o. refl) h q c)
   where
-    W : IsSystem (node_history h) (initial_state initial)
-    W = system_of_legal initial h l
+    W : IsSystem (node_history h) R.root
+    W = system_of_grounded R.root h (R.grounded h l)
 
     from : Listed (λ p n a o. published_by p n o) h q → q.state.term ≤ term_of (node_history h q.publisher)
     from i = at (publishes_by i.before i.node i.outcome q i.adds)
       where
         at : PublishesBy i.node i.outcome q → q.state.term ≤ term_of (node_history h q.publisher)
         at x =
-            let below = request_below (node_history h) (initial_state initial) W i.node x.request (node_history h i.node) (W i.node) (record {
+            let below = request_below (node_history h) R.root W i.node x.request (node_history h i.node) (W i.node) (record {
               before = node_history i.before i.node;
               act = i.act;
               flag = x.flag;
@@ -103,7 +104,8 @@ published_below initial h l q c = from (listed published (λ p n a o. published_
             subst (λ (n : Id). q.state.term ≤ term_of (node_history h n)) x.publisher_is
             (subst (λ (s : ClusterState). s.term ≤ term_of (node_history h i.node)) x.state_is below)
 
-module _ (initial : List Id) (h : History) (l : IsLegal initial h) (us : List Id) (m : Id) (can : CanRescue h us m) (value : ClusterValue) where
+module _ (R : Rule) (h : History) (l : R.Right h) (us : List Id) (begun : (u : Id) → has u us ≡ true → R.MayAct (node_history h u)) (m : Id) (can : CanRescue h us m)
+    (value : ClusterValue) where
   abbrev pub t : ℕ
   t = rescue_term h us
 
@@ -127,8 +129,8 @@ module _ (initial : List Id) (h : History) (l : IsLegal initial h) (us : List Id
 
   accepted_older : (u : Id) → has u us ≡ true → (accepted_of (node_history h u)).term < t
   accepted_older u e =
-      let W = system_of_legal initial h l in
-      let a = accepted_below (node_history h) (initial_state initial) W u (node_history h u) (W u) in
+      let W = system_of_grounded R.root h (R.grounded h l) in
+      let a = accepted_below (node_history h) R.root W u (node_history h u) (W u) in
       let b = term_below u e in
       omega arith
 
@@ -137,12 +139,16 @@ module _ (initial : List Id) (h : History) (l : IsLegal initial h) (us : List Id
   abbrev pub after_starts : History
   after_starts = carried h (sweep (λ u. StartJoin m t) us)
 
-  pub starts : Swept initial (λ u. StartJoin m t) (λ u. JoinMessage (join_of h m t u)) us h
+  start_to_starts : IsPrefix h after_starts
+  start_to_starts = prefix_carried h (sweep (λ u. StartJoin m t) us)
+
+  pub starts : Swept R (λ u. StartJoin m t) (λ u. JoinMessage (join_of h m t u)) us h
   starts =
-      swept initial (λ u. StartJoin m t) (λ u. JoinMessage (join_of h m t u)) us can.ascending h l (λ u e. record {
+      swept R (λ u. StartJoin m t) (λ u. JoinMessage (join_of h m t u)) us can.ascending h l (λ u e. record {
         up = can.up u e;
         reply = start_taken u (node_history h u) m t (can.runs u e) (term_below u e) term_limit;
-        continues = λ g. tt;
+        may_act = begun u e;
+        closed = refl;
         sourced = λ k i. tt;
       })
 
@@ -161,11 +167,11 @@ module _ (initial : List Id) (h : History) (l : IsLegal initial h) (us : List Id
     refl,
   )
 
-  joining_one : (k : History) (done : List Id) (u : Id) → IsPrefix after_starts k → has u us ≡ true → Joining k done → Gathers initial m take_join Joining k done u
+  joining_one : (k : History) (done : List Id) (u : Id) → IsPrefix after_starts k → has u us ≡ true → Joining k done → Gathers R m take_join Joining k done u
   joining_one k done u i e p = record {
     up = p.0.up;
     taken = ap is_taken reply;
-    continues = tt;
+    closed = refl;
     sourced = sent_grows after_starts k _ i (sent_last after_starts u (node_history h u) (StartJoin m t) (JoinMessage (join_of h m t u)) (starts.each u e));
     next = subst (λ (r : ActReply). Joining (Next k m (take_join u) (Answered r)) (with_id u done)) (sym reply) next;
   }
@@ -193,8 +199,11 @@ module _ (initial : List Id) (h : History) (l : IsLegal initial h) (us : List Id
   abbrev pub after_joins : History
   after_joins = carried after_starts (gather m take_join us)
 
-  joins : Gathered initial m take_join Joining us after_starts []
-  joins = gathered initial m take_join Joining after_starts (λ u. has u us ≡ true) joining_one us (λ u e. e) after_starts [] (prefix_self after_starts) starts.legal joining_first
+  start_to_joins : IsPrefix h after_joins
+  start_to_joins = prefix_trans h after_starts after_joins start_to_starts (prefix_carried after_starts (gather m take_join us))
+
+  joins : Gathered R m take_join Joining us after_starts []
+  joins = gathered R m take_join Joining after_starts (acts_later R h after_starts m start_to_starts (begun m can.member)) (λ u. has u us ≡ true) joining_one us (λ u e. e) after_starts [] (prefix_self after_starts) starts.legal joining_first
 
   all_votes : is_both held base.config (all_with us []) ≡ true
   all_votes = both_grow held base.config us (all_with us []) (λ q e. all_with_has us [] q e) can.committed_quorum can.accepted_quorum
@@ -210,6 +219,9 @@ module _ (initial : List Id) (h : History) (l : IsLegal initial h) (us : List Id
   abbrev pub after_value : History
   after_value = answered after_joins m value_act
 
+  start_to_value : IsPrefix h after_value
+  start_to_value = prefix_trans h after_joins after_value start_to_joins (prefix_step after_joins m value_act)
+
   version_now : published_version_of (node_history after_joins m) ≡ base.version
   version_now = joins.holds.0.version_is has_won
 
@@ -221,8 +233,8 @@ module _ (initial : List Id) (h : History) (l : IsLegal initial h) (us : List Id
       (ap (λ votes. is_quorum_of base.config votes) joins.holds.0.votes_are ∙ (and_parts _ _ all_votes).1)
       ∙ (λ i. Taken (Some (PublishMessage (record { source = m; state = record { term = joins.holds.0.term_is i; version = v; parent = Some (id_of (joins.holds.0.accepted_is i)); config = base.config; committed = joins.holds.0.committed_is i; value = value } }))) false)
 
-  value_legal : IsLegal initial after_value
-  value_legal = (joins.legal, may_answer initial after_joins m value_act joins.holds.0.up tt tt)
+  value_legal : R.Right after_value
+  value_legal = answers R after_joins m value_act joins.legal (acts_later R h after_joins m start_to_joins (begun m can.member)) joins.holds.0.up refl tt
 
   value_deeds : node_history after_value m ≡ Then (node_history after_joins m) value_act (Answered (Taken (Some (PublishMessage request)) false))
   value_deeds = own_deeds after_joins m value_act _ ∙ ap (λ (r : ActReply). Then (node_history after_joins m) value_act (Answered r)) value_reply_is
@@ -266,18 +278,22 @@ module _ (initial : List Id) (h : History) (l : IsLegal initial h) (us : List Id
   abbrev pub after_publishes : History
   after_publishes = carried after_value (sweep (λ u. Publish request) us)
 
-  pub publishes : Swept initial (λ u. Publish request) (λ u. ResponseMessage (response_of h m t u)) us after_value
+  pub publishes : Swept R (λ u. Publish request) (λ u. ResponseMessage (response_of h m t u)) us after_value
   publishes =
-      swept initial (λ u. Publish request) (λ u. ResponseMessage (response_of h m t u)) us can.ascending after_value value_legal (λ u e.
+      swept R (λ u. Publish request) (λ u. ResponseMessage (response_of h m t u)) us can.ascending after_value value_legal (λ u e.
       let w = waiting u e in
       record {
         up = w.up;
         reply = publish_taken u (node_history after_value u) request w.runs w.term_is w.older;
-        continues = λ g. tt;
+        may_act = acts_later R h after_value u start_to_value (begun u e);
+        closed = refl;
         sourced = λ k i. sent_grows after_value k _ i value_sent;
       })
 
   -- The responses are taken.
+
+  start_to_publishes : IsPrefix h after_publishes
+  start_to_publishes = prefix_trans h after_value after_publishes start_to_value (prefix_carried after_value (sweep (λ u. Publish request) us))
 
   abbrev pub take_response : Id → Act
   take_response u = Response (response_of h m t u)
@@ -290,11 +306,11 @@ module _ (initial : List Id) (h : History) (l : IsLegal initial h) (us : List Id
       subst (λ (g : NodeHistory). Awaits m t v held base.config g (sent after_publishes) []) (sym (publishes.each m can.member))
       (awaits_first m t v held base.config request (node_history after_value m) (sent after_publishes) (ResponseMessage (response_of h m t m)) refl publishing)
 
-  acking_one : (k : History) (done : List Id) (u : Id) → IsPrefix after_publishes k → has u us ≡ true → Acking k done → Gathers initial m take_response Acking k done u
+  acking_one : (k : History) (done : List Id) (u : Id) → IsPrefix after_publishes k → has u us ≡ true → Acking k done → Gathers R m take_response Acking k done u
   acking_one k done u i e p = record {
     up = p.up;
     taken = ap is_taken reply;
-    continues = tt;
+    closed = refl;
     sourced = sent_grows after_publishes k _ i (sent_last after_publishes u (node_history after_value u) (Publish request) (ResponseMessage (response_of h m t u)) (publishes.each u e));
     next = subst (λ (r : ActReply). Acking (Next k m (take_response u) (Answered r)) (with_id u done)) (sym reply) next;
   }
@@ -311,8 +327,8 @@ module _ (initial : List Id) (h : History) (l : IsLegal initial h) (us : List Id
   abbrev pub after_all : History
   after_all = carried after_publishes (gather m take_response us)
 
-  responses : Gathered initial m take_response Acking us after_publishes []
-  responses = gathered initial m take_response Acking after_publishes (λ u. has u us ≡ true) acking_one us (λ u e. e) after_publishes [] (prefix_self after_publishes) publishes.legal acking_first
+  responses : Gathered R m take_response Acking us after_publishes []
+  responses = gathered R m take_response Acking after_publishes (acts_later R h after_publishes m start_to_publishes (begun m can.member)) (λ u. has u us ≡ true) acking_one us (λ u e. e) after_publishes [] (prefix_self after_publishes) publishes.legal acking_first
 
   commit_is_sent : Contains (sent after_all) (CommitMessage (record { source = m; term = t; version = v }))
   commit_is_sent = responses.holds.commits_with all_votes
@@ -326,9 +342,9 @@ module _ (initial : List Id) (h : History) (l : IsLegal initial h) (us : List Id
   joins_in_all = prefix_trans after_joins after_value after_all (prefix_step after_joins m value_act) value_in_all
 
   pub start_in_all : IsPrefix h after_all
-  start_in_all = prefix_trans h after_starts after_all (prefix_carried h (sweep (λ u. StartJoin m t) us)) (prefix_trans after_starts after_joins after_all (prefix_carried after_starts (gather m take_join us)) joins_in_all)
+  start_in_all = prefix_trans h after_joins after_all start_to_joins joins_in_all
 
-  pub legal_after : IsLegal initial after_all
+  pub legal_after : R.Right after_all
   legal_after = responses.legal
 
   pub wins_term : Contains (winners after_all) (record { node = m; term = t })
@@ -351,7 +367,7 @@ module _ (initial : List Id) (h : History) (l : IsLegal initial h) (us : List Id
   -- no state of this term was published by m before
   pub not_mine : (q : Published) → Contains (published h) q → q.publisher ≡ m → q.state.term ≡ t → ⊥
   not_mine q c same_node same_term =
-      let below = published_below initial h l q c in
+      let below = published_below R h l q c in
       let above = term_below m can.member in
       let moved = ap (λ (n : Id). term_of (node_history h n)) same_node in
       absurd (omega arith)
@@ -359,7 +375,7 @@ module _ (initial : List Id) (h : History) (l : IsLegal initial h) (us : List Id
   -- in the longer history m alone publishes in this term
   mine : (q : Published) → Contains (published h) q → q.state.term ≡ t → q.publisher ≡ m
   mine q c same_term =
-      let facts = facts_of_legal initial after_all legal_after in
+      let facts = facts_of_system after_all R.root (system_of_grounded R.root after_all (R.grounded after_all legal_after)) in
       alone facts new_publication commits_state.0 (agree_terms facts t).one_winner q (published_grows h after_all q start_in_all c) same_term
 
   pub is_fresh : (q : Published) → Contains (published h) q → q.state.term ≡ t → ⊥
@@ -377,9 +393,9 @@ module _ (initial : List Id) (h : History) (l : IsLegal initial h) (us : List Id
       let g = length-append (sweep (λ u. Publish request) us) (gather m take_response us) in
       omega arith
 
-  pub rescued : Rescues initial h us m value
+  pub rescued : Rescues R.Right h us m value
   rescued = record {
-    legal = subst (λ (k : History). IsLegal initial k) (sym carried_is) legal_after;
+    legal = subst R.Right (sym carried_is) legal_after;
     taken = all_taken;
     count = counted;
     winner = subst (λ (k : History). Contains (winners k) (record { node = m; term = t })) (sym carried_is) wins_term;

@@ -4,7 +4,7 @@ use Rattle.std.specs.List.{Contains}
 use Rattle.cluster_state.specs.StateIds.{is_fresher}
 use Rattle.rescue_plan.specs.Lines.{answered}
 use Rattle.rescue_plan.specs.Rescue.{IsBehind}
-use Rattle.voting_config.specs.Ids.{Id, has, before, ascends, is_quorum_of}
+use Rattle.voting_config.specs.Ids.{Id, has, ascends, is_quorum_of}
 use Rattle.cluster_state.specs.declared.state.ClusterState.{ClusterState}
 use Rattle.cluster_state.specs.declared.state.ClusterValue.{ClusterValue}
 use Rattle.cluster_state.specs.declared.messages.Join.{Join}
@@ -13,12 +13,11 @@ use Rattle.cluster_state.specs.declared.messages.PublishResponse.{PublishRespons
 use Rattle.world_model.specs.declared.acts.Act.{Act}
 use Rattle.world_model.specs.declared.acts.Message.{Message}
 use Rattle.world_model.specs.declared.acts.Act.TheVariants.{StartJoin, TakeJoin, Value, Publish, Response}
-use Rattle.world_model.specs.declared.acts.Message.TheVariants.{Join as JoinMessage, Publish as PublishMessage, Response as ResponseMessage}
-use Rattle.world_model.specs.declared.acts.Outcome.TheVariants.{Answered}
+use Rattle.world_model.specs.declared.acts.Message.TheVariants.{Join as JoinMessage, Response as ResponseMessage}
 use Rattle.world_model.specs.NodeState.{node_state, term_of, accepted_of, committed_of, halted_of}
 use Rattle.cluster_state.specs.Field.{last_number}
 use Rattle.world_model.specs.Replies.{id_of, reply_of, is_taken, join_from}
-use Rattle.world_model.specs.Histories.{History, Next, node_history, sent, is_down, IsLegal}
+use Rattle.world_model.specs.Histories.{History, node_history, is_down}
 use Rattle.world_model.specs.Safety.{winners, Published, published, IsCommitted}
 
 -- an act that a node is to do
@@ -129,8 +128,8 @@ pub record CanRescue (h : History) (us : List Id) (m : Id) : Type 0 where
   pub version_below : (accepted_of (node_history h m)).version < last_number
 
 -- what the plan brings about
-pub record Rescues (initial : List Id) (h : History) (us : List Id) (m : Id) (value : ClusterValue) : Type 0 where
-  pub legal : IsLegal initial (carried h (plan h us m value))
+pub record Rescues (Right : History → Type 0) (h : History) (us : List Id) (m : Id) (value : ClusterValue) : Type 0 where
+  pub legal : Right (carried h (plan h us m value))
   pub taken : AllTaken h (plan h us m value)
   pub count : length (plan h us m value) ≡ 4 * length us + 1
   pub winner : Contains (winners (carried h (plan h us m value))) (record { node = m; term = rescue_term h us })
