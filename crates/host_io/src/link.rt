@@ -20,6 +20,14 @@ const WAIT_MS: u64 = 50;
 // The longest time without a tick while inputs come, in milliseconds; where an event takes longer, each second input is one.
 const LATE_MS: u64 = 100;
 
+// The same two, in milliseconds, while an election may be on, whose waits are short.
+const BRISK_WAIT_MS: u64 = 10;
+
+const BRISK_LATE_MS: u64 = 20;
+
+// For how long that is so after a connection has ended that brought frames, in milliseconds.
+const BRISK_MS: u64 = 1000;
+
 /// A link over sockets. It tells nothing but its counts.
 #[derive(Drop)]
 pub struct SocketLink<R: Net + Clock + RandomSource + Drop, F: Framing + Drop> {
@@ -31,6 +39,8 @@ pub struct SocketLink<R: Net + Clock + RandomSource + Drop, F: Framing + Drop> {
     ticked: u64,
     // Whether a tick was given last.
     ticked_last: bool,
+    // Before this moment ticks come more often.
+    brisk_until: u64,
     // how often `next` was called
     asked: u64,
     faults: u64,
@@ -57,6 +67,7 @@ impl<R: Net + Clock + RandomSource + Drop, F: Framing + Drop> SocketLink<R, F> {
             opened,
             ticked: 0,
             ticked_last: false,
+            brisk_until: 0,
             asked: 0,
             faults: 0,
         })
@@ -78,13 +89,21 @@ impl<R: Net + Clock + RandomSource + Drop, F: Framing + Drop> SocketLink<R, F> {
         let Ok(now) = passed(&self.rt, &self.opened) else {
             return Err(LinkError::Failed);
         };
-        let late = self.ticked.saturating_add(LATE_MS);
+        if self.sockets.take_end() {
+            self.brisk_until = now.saturating_add(BRISK_MS);
+        }
+        let (wait, late) = if now < self.brisk_until {
+            (BRISK_WAIT_MS, BRISK_LATE_MS)
+        } else {
+            (WAIT_MS, LATE_MS)
+        };
+        let late = self.ticked.saturating_add(late);
         if now >= late && !self.ticked_last {
             self.sockets.serve(&self.framing, now);
             return Ok(None);
         }
         // where a tick is due again at once, what has come by now goes first
-        let until = now.saturating_add(WAIT_MS).min(late);
+        let until = now.saturating_add(wait).min(late);
         self.sockets
             .find(&self.rt, &self.framing, &self.opened, until)
     }

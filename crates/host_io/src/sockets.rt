@@ -36,6 +36,9 @@ const LOOKS: u32 = 16;
 // How many lines of clients are handed on before the other connections are looked at, at most.
 const LINES: u32 = 64;
 
+// For how many lost nodes there is room from the start: each is told before another connection is looked at.
+const LOST: usize = CONNECTIONS as usize;
+
 // How many connections wait for a number at most.
 const LOBBY: usize = 8;
 
@@ -113,6 +116,10 @@ pub(crate) struct Sockets {
     highest: u64,
     // Those that found no number, the oldest first.
     lobby: VecDeque<Guest>,
+    // The nodes that are lost, which is still to be told, the first first.
+    lost: VecDeque<NodeId>,
+    // Whether a connection has ended that brought frames, since this was asked last.
+    has_ended: bool,
     // The node's frames to itself.
     own: FrameQueue,
     // The number of a client that was looked at last.
@@ -156,6 +163,10 @@ impl Sockets {
                 return Err(HostError::Memory);
             }
         }
+        let mut lost = VecDeque::new(alloc);
+        if lost.reserve(LOST).is_err() {
+            return Err(HostError::Memory);
+        }
         let Ok(events) = Events::with_capacity(alloc, 64) else {
             return Err(HostError::Memory);
         };
@@ -173,6 +184,8 @@ impl Sockets {
             owed,
             highest: OWN,
             lobby: VecDeque::new(alloc),
+            lost,
+            has_ended: false,
             own: FrameQueue::new(alloc),
             last_client: OWN,
             last_other: OWN,
@@ -189,6 +202,13 @@ impl Sockets {
         let errors = self.errors;
         self.errors = 0;
         errors
+    }
+
+    // Whether a connection has ended that brought frames, since this was asked last.
+    pub(crate) fn take_end(&mut self) -> bool {
+        let has_ended = self.has_ended;
+        self.has_ended = false;
+        has_ended
     }
 
     pub(crate) fn note_error(&mut self) {
@@ -267,6 +287,9 @@ impl Sockets {
     {
         if let Some(bytes) = self.own.take()? {
             return Ok(Some(Input::Bytes { conn: OWN, bytes }));
+        }
+        if let Some(peer) = self.lost.pop_front() {
+            return Ok(Some(Input::Disconnected { peer }));
         }
         self.serve(framing, now);
         if self.asks_to_stop(framing) {
@@ -566,11 +589,37 @@ impl Sockets {
 
     // Puts a connection under a number, in place of the one that has it.
     fn put(&mut self, number: u64, mut connection: Connection) {
+        let node = self.note_end(number);
         if let Some(slot) = self.connections.get_mut(number as usize) {
             connection.set_number(self.poll.registry(), number);
             connection.set_owes_end(matches!(slot, Some(old) if old.was_heard()));
             *slot = Some(connection);
             self.highest = self.highest.max(number);
+        }
+        self.note_lost(node);
+    }
+
+    // Notes that the connection with this number ends, if there is one. Gives the node whose frames it brought, or else the
+    // one to which it was opened.
+    fn note_end(&mut self, number: u64) -> Option<NodeId> {
+        let Some(Some(connection)) = self.connections.get(number as usize) else {
+            return None;
+        };
+        let sender = connection.sender();
+        self.has_ended = self.has_ended || sender.is_some();
+        sender.or(connection.peer())
+    }
+
+    // A connection of this node has ended. Where no other brings its frames, it is lost.
+    fn note_lost(&mut self, node: Option<NodeId>) {
+        let Some(id) = node else {
+            return;
+        };
+        if self.newest_by(Way::Heard, id).is_some() || self.lost.contains(&id) {
+            return;
+        }
+        if self.lost.push_back(id).is_err() {
+            self.note_error();
         }
     }
 
@@ -645,9 +694,11 @@ impl Sockets {
 
     // Forgets the connection with this number, if there is one.
     fn close(&mut self, number: u64) {
+        let node = self.note_end(number);
         if let Some(slot) = self.connections.get_mut(number as usize) {
             *slot = None;
         }
+        self.note_lost(node);
     }
 
     // Ends the connection that is known by this number, if there is one.
