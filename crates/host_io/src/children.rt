@@ -1,4 +1,5 @@
 //! The children of the process: started, read from while one is waited for, and killed.
+use crate::errors::error_of;
 use libc::net::{POLLIN, poll};
 use libc::types::pollfd;
 use std::alloc::{AllocError, Global};
@@ -48,14 +49,6 @@ pub struct Children {
     running: Vec<Running>,
     // how many were spawned
     spawned: u64,
-}
-
-fn error_of(error: io::Error) -> HostError {
-    if error.kind() == io::ErrorKind::OutOfMemory {
-        HostError::Memory
-    } else {
-        HostError::Failed
-    }
 }
 
 fn launch(rt: &HostRuntime, alloc: Global, program: &str, words: &[String]) -> io::Result<Child> {

@@ -2,28 +2,46 @@
 ghost use Rattle.std.specs.Prelude.{◌≡◌, [], ⊤, IfOk};
 ghost use Rattle.zen_disk.specs.Faults.{HasCause};
 
-use crate::folder::{make_file, make_folders, open_file, sync_folder};
-use std::alloc::AllocError;
-use std::fs::File;
+use crate::errors::error_of;
+use crate::folder::{
+    empty_file, hold_folder, make_file, make_folders, open_file, put_in_place, sync_folder,
+};
+use crate::owner::{Owner, check_owner};
+use std::fs::{File, Metadata, symlink_metadata};
 use std::io;
-use std::os::unix::fs::FileExt;
+use std::os::unix::fs::{FileExt, MetadataExt, fchown};
 use zen_disk::{Disks, Failed, Side};
 use zen_host::HostError;
 
 // The byte after which no write ends.
 const END: u64 = 1 << 62;
 
+// How many bytes are copied at once.
+const PIECE: usize = 65_536;
+
 // One of the two files. A file that is not there has no bytes.
 #[derive(Drop)]
 struct SideFile {
     path: String,
+    // Where it is written anew.
+    new_path: String,
     file: Option<File>,
+    // Whether it was there at the opening, and has not been synced since.
+    is_old: bool,
 }
 
 impl SideFile {
-    fn open(rt: &HostRuntime, path: String) -> io::Result<SideFile> {
+    fn open(rt: &HostRuntime, dir: &str, name: &str) -> io::Result<SideFile> {
+        let path = format!(in rt.alloc(); "{dir}/{name}")?;
+        let new_path = format!(in rt.alloc(); "{dir}/{name}.new")?;
         let file = open_file(rt, path.as_str())?;
-        Ok(SideFile { path, file })
+        let is_old = file.is_some();
+        Ok(SideFile {
+            path,
+            new_path,
+            file,
+            is_old,
+        })
     }
 
     fn byte_count(&self) -> io::Result<u64> {
@@ -54,19 +72,78 @@ impl SideFile {
         }
     }
 
-    fn sync(&self) -> io::Result<()> {
+    // Linux takes the pages of an fsync that fails for written (since 4.13): they are read back, and the next fsync says that
+    // all is well. So what an earlier opening has left is written anew at the first sync, and no sync of its old pages is believed.
+    fn sync(&mut self, rt: &HostRuntime, dir: &str) -> io::Result<()> {
+        match self.renewed(rt, dir)? {
+            Some(file) => self.file = Some(file),
+            None => self.sync_file()?,
+        }
+        self.is_old = false;
+        Ok(())
+    }
+
+    fn sync_file(&self) -> io::Result<()> {
         match &self.file {
             Some(file) => file.sync_data(),
             None => Ok(()),
         }
     }
+
+    // Where it is old, a new file with its bytes and its rights, which has taken its place. A link or a device stays.
+    fn renewed(&self, rt: &HostRuntime, dir: &str) -> io::Result<Option<File>> {
+        let Some(old) = &self.file else {
+            return Ok(None);
+        };
+        let path = self.path.as_str();
+        if !self.is_old || !is_regular(rt, path)? {
+            return Ok(None);
+        }
+        let new_path = self.new_path.as_str();
+        let metadata = old.metadata()?;
+        let file = empty_file(rt, new_path)?;
+        copy(old, &file, metadata.len())?;
+        give_rights(&file, &metadata)?;
+        put_in_place(rt, dir, &file, new_path, path)?;
+        Ok(Some(file))
+    }
+}
+
+// Whether a regular file is at this path, and no link to one.
+fn is_regular(rt: &HostRuntime, path: &str) -> io::Result<bool> {
+    Ok(symlink_metadata(rt, path)?.is_file())
+}
+
+// Copies so many bytes.
+fn copy(from: &File, to: &File, count: u64) -> io::Result<()> {
+    let mut piece = [0; PIECE];
+    for at in (0..count).step_by(PIECE) {
+        let length = (count - at).min(PIECE as u64) as usize;
+        let part = &mut piece[..length];
+        from.read_exact_at(part, at)?;
+        to.write_all_at(part, at)?;
+    }
+    Ok(())
+}
+
+// Gives a file the owner, the group and the mode of another.
+fn give_rights(file: &File, old: &Metadata) -> io::Result<()> {
+    // Where the system refuses it, as it may to all but its administrator, the file is left with who has made it.
+    let _ = fchown(file, Some(old.uid()), Some(old.gid()));
+    if file.metadata()?.permissions() == old.permissions() {
+        return Ok(());
+    }
+    file.set_permissions(old.permissions())
 }
 
 /// The files `journal.0` and `journal.1` in a folder, which are its two sides. A file that is not there has length 0; it is
-/// made at its first write, and the folder is synced before that write.
+/// made at its first write, and the folder is synced before that write. One that was there is written anew at its first sync.
+/// The folder is held as long as this lives.
 #[derive(Drop)]
 pub struct FileDisks {
     rt: HostRuntime,
+    // The folder, which is held by it.
+    folder: File,
     dir: String,
     zero: SideFile,
     one: SideFile,
@@ -75,23 +152,25 @@ pub struct FileDisks {
 
 impl FileDisks {
     /// The files of this folder, with no fault yet. It makes the folder with its parents where it is not there. `Failed`
-    /// where the folder can't be made, or a file that is there can't be opened.
+    /// where the folder can't be made, somebody else holds it, or a file that is there can't be opened.
     pub fn open(rt: &HostRuntime, dir: &str) -> Result<FileDisks, HostError>
         ensures fresh { IfOk result (λ disk. disk.faults ≡ 0) }
     {
-        let Ok((name, paths)) = names(rt, dir) else {
-            return Err(HostError::Memory);
-        };
-        let Ok((zero, one)) = open_sides(rt, dir, paths) else {
-            return Err(HostError::Failed);
-        };
-        Ok(FileDisks {
-            rt: *rt,
-            dir: name,
-            zero,
-            one,
-            faults: 0,
-        })
+        FileDisks::open_for(rt, dir, Owner::Any)
+    }
+
+    /// The same for an owner. `Failed` too where the folder is another node's, or can't be named.
+    pub(crate) fn open_for(
+        rt: &HostRuntime,
+        dir: &str,
+        owner: Owner,
+    ) -> Result<FileDisks, HostError>
+        ensures fresh { IfOk result (λ disk. disk.faults ≡ 0) }
+    {
+        match opened(rt, dir, owner) {
+            Ok(disk) => Ok(disk),
+            Err(error) => Err(error_of(error)),
+        }
     }
 
     fn file(&self, side: Side) -> &SideFile {
@@ -102,26 +181,26 @@ impl FileDisks {
     }
 }
 
-// The folder's name, and those of the two files in it.
-fn names(rt: &HostRuntime, dir: &str) -> Result<(String, (String, String)), AllocError> {
-    let alloc = rt.alloc();
-    let zero = format!(in alloc; "{dir}/journal.0")?;
-    let one = format!(in alloc; "{dir}/journal.1")?;
-    Ok((String::from_str(alloc, dir)?, (zero, one)))
-}
-
-// Makes the folder, and opens what is there. An earlier run may have been ended after it had made a file and before it had
-// synced the folder, so the folder is synced again.
-fn open_sides(
-    rt: &HostRuntime,
-    dir: &str,
-    paths: (String, String),
-) -> io::Result<(SideFile, SideFile)> {
+// Makes the folder, holds it before anything in it is looked at, and opens what is there. An earlier run may have been ended
+// after it had made a file and before it had synced the folder, so the folder is synced again.
+fn opened(rt: &HostRuntime, dir: &str, owner: Owner) -> io::Result<FileDisks>
+    ensures fresh { IfOk result (λ disk. disk.faults ≡ 0) }
+{
     make_folders(rt, dir)?;
-    let zero = SideFile::open(rt, paths.0)?;
-    let one = SideFile::open(rt, paths.1)?;
+    let folder = hold_folder(rt, dir)?;
+    check_owner(rt, dir, owner)?;
+    let zero = SideFile::open(rt, dir, "journal.0")?;
+    let one = SideFile::open(rt, dir, "journal.1")?;
     sync_folder(rt, dir)?;
-    Ok((zero, one))
+    let dir = String::from_str(rt.alloc(), dir)?;
+    Ok(FileDisks {
+        rt: *rt,
+        folder,
+        dir,
+        zero,
+        one,
+        faults: 0,
+    })
 }
 
 // Counts a fault where the system gave an error.
@@ -182,7 +261,11 @@ impl Disks for FileDisks {
     }
 
     fn sync(&mut self, side: Side) -> Result<(), Failed> {
-        let answer = self.file(side).sync();
+        let dir = self.dir.as_str();
+        let answer = match side {
+            Side::Zero => self.zero.sync(&self.rt, dir),
+            Side::One => self.one.sync(&self.rt, dir),
+        };
         counted(&mut self.faults, answer)
     }
 }

@@ -1,13 +1,25 @@
 //! Folders and files made so that a crash of the machine loses no name.
-use std::fs::{File, OpenOptions, create_dir};
+use std::fs::{File, OpenOptions, create_dir, rename};
 use std::io;
 use std::os::fd::AsRawFd;
 use std::path::Path;
 
+fn open_folder(rt: &HostRuntime, path: &str) -> io::Result<File> {
+    let path = if path.is_empty() { "." } else { path };
+    File::open(rt, path)
+}
+
 /// After it a crash of the machine loses no name in the folder.
 pub fn sync_folder(rt: &HostRuntime, path: &str) -> io::Result<()> {
-    let path = if path.is_empty() { "." } else { path };
-    File::open(rt, path)?.sync_all()
+    open_folder(rt, path)?.sync_all()
+}
+
+/// Holds a folder as long as the file that it gives lives: nobody else who asks for it gets it, neither another process nor
+/// another call of this one. `WouldBlock` where somebody holds it, or another error where the system gives no such lock.
+pub fn hold_folder(rt: &HostRuntime, path: &str) -> io::Result<File> {
+    let folder = off_the_streams(open_folder(rt, path)?)?;
+    folder.try_lock()?;
+    Ok(folder)
 }
 
 fn sync_parent(rt: &HostRuntime, path: &str) -> io::Result<()> {
@@ -68,4 +80,29 @@ pub fn make_file(rt: &HostRuntime, dir: &str, path: &str) -> io::Result<File> {
     let file = off_the_streams(file)?;
     sync_folder(rt, dir)?;
     Ok(file)
+}
+
+/// Makes a file without bytes, or takes all bytes from the one that is there.
+pub fn empty_file(rt: &HostRuntime, path: &str) -> io::Result<File> {
+    let file = OpenOptions::new()
+        .read(true)
+        .write(true)
+        .create(true)
+        .truncate(true)
+        .open(rt, path)?;
+    off_the_streams(file)
+}
+
+/// Has this file, which is at `new`, take the place of the one at `path` in the folder `dir`. After a crash the one or the other
+/// is there, whole.
+pub fn put_in_place(
+    rt: &HostRuntime,
+    dir: &str,
+    file: &File,
+    new: &str,
+    path: &str,
+) -> io::Result<()> {
+    file.sync_all()?;
+    rename(rt, new, path)?;
+    sync_folder(rt, dir)
 }

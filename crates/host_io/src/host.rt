@@ -3,6 +3,7 @@ ghost use Rattle.std.specs.Prelude.{◌≡◌, ◌≤◌, None, ⊤};
 ghost use Rattle.zen_disk.specs.Faults.{Rose};
 
 use crate::children::{Children, SystemChild, Unwaited};
+use crate::owner::Owner;
 use crate::{FileDisks, Framing, SocketLink, StandardInput, StandardOutput};
 use zen_host::{Ended, Host, HostError};
 use zen_link::LinkSettings;
@@ -13,6 +14,8 @@ use zen_link::LinkSettings;
 pub struct SystemHost<'a, F: Framing + Copy + Drop> {
     rt: &'a HostRuntime,
     framing: F,
+    // For whom folders are opened.
+    owner: Owner,
     disk_back: Option<FileDisks>,
     link_back: Option<SocketLink<HostRuntime, F>>,
     children: Children,
@@ -31,6 +34,7 @@ impl<'a, F: Framing + Copy + Drop> SystemHost<'a, F> {
         SystemHost {
             rt,
             framing,
+            owner: Owner::Any,
             disk_back: None,
             link_back: None,
             children: Children::new(rt.alloc()),
@@ -38,6 +42,14 @@ impl<'a, F: Framing + Copy + Drop> SystemHost<'a, F> {
             running: 0,
             faults: 0,
         }
+    }
+
+    /// The same system, whose folders are opened for this owner alone.
+    pub fn owned_by(mut self, owner: Owner) -> SystemHost<'a, F>
+        ensures { result.faults ≡ self.entry.faults }
+    {
+        self.owner = owner;
+        self
     }
 
     // Counts a fault.
@@ -95,7 +107,7 @@ impl<F: Framing + Copy + Drop> Host for SystemHost<'_, F> {
     ghost kill_moves = { λ _ _ _. ⊤ };
 
     fn open_disk(&mut self, dir: &str) -> Result<FileDisks, HostError> {
-        match FileDisks::open(self.rt, dir) {
+        match FileDisks::open_for(self.rt, dir, self.owner) {
             Ok(disk) => Ok(disk),
             Err(HostError::Memory) => Err(HostError::Memory),
             Err(HostError::Failed) => Err(self.failed()),
