@@ -103,6 +103,8 @@ enum AtLink {
     GivesTimes(u64, &'static [u8], u64),
     // The next input but for ticks: the end of the connection.
     Closes(u64),
+    // The next input but for ticks: that the node with this id is lost.
+    Loses(u8),
     // The next inputs: so many ticks.
     Ticks(u64),
     // The next input is a tick, and one comes again though it sends itself something each time.
@@ -235,6 +237,7 @@ fn ask(alloc: Global, link: &mut RealLink, count: u64) -> bool {
 enum Given {
     Bytes(u64, &'static [u8]),
     Closed(u64),
+    Lost(u8),
     Stop,
 }
 
@@ -244,6 +247,7 @@ fn is(input: &Input, wanted: Given) -> bool {
             *conn == number && bytes.as_slice() == wanted
         }
         (Input::Closed { conn }, Given::Closed(number)) => *conn == number,
+        (Input::Disconnected { peer }, Given::Lost(letter)) => *peer == id(letter),
         (Input::Stop, Given::Stop) => true,
         _ => false,
     }
@@ -312,6 +316,7 @@ fn is_so(rt: &HostRuntime, link: &mut RealLink, row: AtLink) -> bool {
         GivesAtOnce(number, bytes) => gives_after(link, 0, Given::Bytes(number, bytes)),
         GivesTimes(number, bytes, times) => gives(link, Given::Bytes(number, bytes), times),
         Closes(number) => gives(link, Given::Closed(number), 1),
+        Loses(letter) => gives(link, Given::Lost(letter), 1),
         Ticks(count) => ticks(link, count),
         TicksAmongInputs => ticks_among_inputs(alloc, link),
         Stops => gives(link, Given::Stop, 1),
@@ -692,6 +697,7 @@ fn a_hosts_name_is_no_address(rt: HostRuntime) -> Result<(), Fail> {
 
 const TWO_LINKS: &[Row] = &[
     Here(Asks(100)),
+    Here(Loses(b'b')),
     Here(Ticks(1)),
     Here(HasNoFault),
     PeerOpens,
@@ -702,6 +708,7 @@ const TWO_LINKS: &[Row] = &[
     Here(Gives(1, ANSWERED)),
     PeerEnds,
     Here(Closes(1)),
+    Here(Loses(b'b')),
 ];
 
 const SLOW_READER: &[Row] = &[
@@ -765,6 +772,7 @@ const ALL_NUMBERS_TAKEN: &[Row] = &[
     Here(Gives(1, ANSWERED)),
     Client(FIRST, Leaves),
     Here(Closes(1)),
+    Here(Loses(b'b')),
     Client(SECOND, Connects),
     Client(SECOND, Says(b"x\n")),
     Here(Gives(1, b"x\n")),

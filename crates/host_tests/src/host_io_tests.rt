@@ -1,15 +1,15 @@
-//! Real files and folders, as rows of what is done with them and of what they then have, and the standard output. What is
-//! expected follows from what was done: the bytes that were written, at their places.
+//! Real files and folders, as rows of what is done with them and of what they then have. What is expected follows from what was
+//! done: the bytes that were written, at their places.
 use self::Row::*;
-use host_io::{FileDisks, Framing, Piece, StandardOutput, SystemHost};
+use host_io::{FileDisks, Framing, Owner, Piece, SystemHost};
 use std::alloc::{AllocError, Global};
 use std::fs;
+use std::os::unix::fs::symlink;
 use std::test::Fail;
 use voting_config::NodeId;
 use zen_disk::Side::{One, Zero};
 use zen_disk::{Disks, Side};
 use zen_host::{Host, HostError};
-use zen_link::Sink;
 
 /// The framing of a program that sends nothing.
 #[derive(Clone, Copy)]
@@ -42,10 +42,15 @@ enum Row {
     GoesBack,
     // From here on the host is another one.
     HostIsNew,
+    // From here on it is another one, for a node with this id, which names its folders.
+    HostIsOf(&'static str),
+    // The same, but it names none.
+    HostKnows(&'static str),
     Writes(Side, u64, &'static [u8]),
     RefusesToWrite(Side, u64, &'static [u8]),
     RefusesToRead(Side, usize),
     Syncs(Side),
+    RefusesToSync(Side),
     // All the bytes of a side.
     Has(Side, &'static [u8]),
     // It has no bytes, and gives none.
@@ -56,6 +61,13 @@ enum Row {
     // All the bytes of a file.
     FileHas(&'static str, &'static [u8]),
     FileIsNotThere(&'static str),
+    // The first is a link to the file whose name in the same folder is the second.
+    LinkIsMade(&'static str, &'static str),
+    // The second is another name of the first.
+    NameIsAdded(&'static str, &'static str),
+    // It has many bytes, of which no two pieces of a copy are alike.
+    LongFileIsMade(&'static str),
+    LongFileIs(&'static str),
 }
 
 // Whether a side has these bytes.
@@ -79,6 +91,29 @@ fn refuses_to_read(disk: &mut FileDisks, side: Side, count: usize) -> bool {
     }
 }
 
+// The bytes of a long file: more than two pieces of a copy.
+fn long_bytes(alloc: Global) -> Result<Vec<u8>, AllocError> {
+    let mut bytes = Vec::new(alloc);
+    for number in 0..50_000u32 {
+        bytes.extend_from_slice(&number.to_be_bytes())?;
+    }
+    Ok(bytes)
+}
+
+fn long_file_is_made(rt: &HostRuntime, path: &str) -> bool {
+    match long_bytes(rt.alloc()) {
+        Ok(bytes) => fs::write(rt, path, bytes.as_slice()).is_ok(),
+        Err(_) => false,
+    }
+}
+
+fn long_file_is(rt: &HostRuntime, path: &str) -> bool {
+    match long_bytes(rt.alloc()) {
+        Ok(bytes) => file_has(rt, path, bytes.as_slice()),
+        Err(_) => false,
+    }
+}
+
 // Whether the file of the system has these bytes.
 fn file_has(rt: &HostRuntime, path: &str, wanted: &[u8]) -> bool {
     match fs::read(rt, path) {
@@ -94,6 +129,7 @@ fn is_so(disk: &mut FileDisks, row: Row) -> bool {
         RefusesToWrite(side, at, bytes) => disk.write_at(side, at, bytes).is_err(),
         RefusesToRead(side, count) => refuses_to_read(disk, side, count),
         Syncs(side) => disk.sync(side).is_ok(),
+        RefusesToSync(side) => disk.sync(side).is_err(),
         Has(side, wanted) => has(disk, side, wanted),
         IsEmpty(side) => refuses_to_read(disk, side, 1) && has(disk, side, b""),
         _ => false,
@@ -108,8 +144,16 @@ fn is_file_so(rt: &HostRuntime, row: Row) -> bool {
         FileIsMade(path, bytes) => fs::write(rt, path, bytes).is_ok(),
         FileHas(path, wanted) => file_has(rt, path, wanted),
         FileIsNotThere(path) => fs::read(rt, path).is_err(),
+        LinkIsMade(path, target) => symlink(rt, target, path).is_ok(),
+        NameIsAdded(path, name) => fs::hard_link(rt, path, name).is_ok(),
+        LongFileIsMade(path) => long_file_is_made(rt, path),
+        LongFileIs(path) => long_file_is(rt, path),
         _ => false,
     }
+}
+
+fn id(text: &str) -> NodeId {
+    NodeId::from_bytes(text.as_bytes()).unwrap_or_default()
 }
 
 #[derive(Drop)]
@@ -133,20 +177,31 @@ impl<'a> World<'a> {
             Opens(dir) => self.opens(dir),
             RefusesToOpen(dir) => matches!(self.host.open_disk(dir), Err(HostError::Failed)),
             GoesBack => self.goes_back(),
-            HostIsNew => {
-                self.host = SystemHost::new(self.rt, NoFrames);
-                true
-            }
-            Writes(..) | RefusesToWrite(..) | RefusesToRead(..) | Syncs(_) | Has(..) | IsEmpty(_) =>
-                match &mut self.disk {
-                    Some(disk) => is_so(disk, row),
-                    None => false,
-                },
+            HostIsNew => self.host_is_of(Owner::Any),
+            HostIsOf(node) => self.host_is_of(Owner::Named(id(node))),
+            HostKnows(node) => self.host_is_of(Owner::Known(id(node))),
+            Writes(..)
+            | RefusesToWrite(..)
+            | RefusesToRead(..)
+            | Syncs(_)
+            | RefusesToSync(_)
+            | Has(..)
+            | IsEmpty(_) => match &mut self.disk {
+                Some(disk) => is_so(disk, row),
+                None => false,
+            },
             _ => is_file_so(self.rt, row),
         }
     }
 
+    fn host_is_of(&mut self, owner: Owner) -> bool {
+        self.host = SystemHost::new(self.rt, NoFrames).owned_by(owner);
+        true
+    }
+
+    // The last disk goes first: it holds its folder.
     fn opens(&mut self, dir: &str) -> bool {
+        self.disk = None;
         self.disk = self.host.open_disk(dir).ok();
         self.disk.is_some()
     }
@@ -217,6 +272,117 @@ const FIRST_WRITE: &[Row] = &[
     FileHas("host_io_old/journal.1", b"d"),
 ];
 
+const HELD_FOLDER: &[Row] = &[
+    Opens("host_io_held"),
+    Writes(Zero, 0, b"ab"),
+    RefusesToOpen("host_io_held"),
+    RefusesToOpen("host_io_held/"),
+    Has(Zero, b"ab"),
+    // A disk that was given back holds its folder as long as the host has it.
+    GoesBack,
+    RefusesToOpen("host_io_held"),
+    HostIsNew,
+    Opens("host_io_held"),
+    Has(Zero, b"ab"),
+];
+
+const NAMED_FOLDER: &[Row] = &[
+    HostKnows("a"),
+    Opens("host_io_named"),
+    FileIsNotThere("host_io_named/node"),
+    GoesBack,
+    FileIsMade("host_io_named/node.new", b"what a crash has left"),
+    HostIsOf("a"),
+    Opens("host_io_named"),
+    FileHas("host_io_named/node", b"id=a\n"),
+    FileIsNotThere("host_io_named/node.new"),
+    GoesBack,
+    HostIsOf("a"),
+    Opens("host_io_named"),
+    GoesBack,
+    HostKnows("a"),
+    Opens("host_io_named"),
+    GoesBack,
+    HostIsOf("b"),
+    RefusesToOpen("host_io_named"),
+    HostKnows("b"),
+    RefusesToOpen("host_io_named"),
+    FileHas("host_io_named/node", b"id=a\n"),
+    FileIsMade("host_io_named/node", b"id=a"),
+    HostIsOf("a"),
+    RefusesToOpen("host_io_named"),
+    FileIsMade("host_io_named/node", b"id=a\n\n"),
+    RefusesToOpen("host_io_named"),
+    FileIsMade("host_io_named/node", b""),
+    RefusesToOpen("host_io_named"),
+    HostKnows("a"),
+    RefusesToOpen("host_io_named"),
+    HostIsNew,
+    Opens("host_io_named"),
+    FileHas("host_io_named/node", b""),
+];
+
+const WRITTEN_ANEW: &[Row] = &[
+    FolderIsMade("host_io_anew"),
+    FileIsMade("host_io_anew/journal.0", b"abc"),
+    NameIsAdded("host_io_anew/journal.0", "host_io_anew/first"),
+    FileIsMade("host_io_anew/journal.0.new", b"what a crash has left"),
+    Opens("host_io_anew"),
+    Writes(Zero, 3, b"d"),
+    FileHas("host_io_anew/first", b"abcd"),
+    Syncs(Zero),
+    FileIsNotThere("host_io_anew/journal.0.new"),
+    Has(Zero, b"abcd"),
+    // It is another file from then on, and stays that.
+    NameIsAdded("host_io_anew/journal.0", "host_io_anew/second"),
+    Writes(Zero, 4, b"e"),
+    Syncs(Zero),
+    Has(Zero, b"abcde"),
+    FileHas("host_io_anew/journal.0", b"abcde"),
+    FileHas("host_io_anew/second", b"abcde"),
+    FileHas("host_io_anew/first", b"abcd"),
+    Syncs(One),
+    FileIsNotThere("host_io_anew/journal.1"),
+    FileIsNotThere("host_io_anew/journal.1.new"),
+];
+
+const LONG_ANEW: &[Row] = &[
+    FolderIsMade("host_io_long"),
+    LongFileIsMade("host_io_long/journal.1"),
+    NameIsAdded("host_io_long/journal.1", "host_io_long/first"),
+    Opens("host_io_long"),
+    Syncs(One),
+    LongFileIs("host_io_long/journal.1"),
+    Writes(One, 0, b"d"),
+    LongFileIs("host_io_long/first"),
+];
+
+const NO_ROOM_FOR_NEW: &[Row] = &[
+    FolderIsMade("host_io_no_new"),
+    FileIsMade("host_io_no_new/journal.0", b"abc"),
+    FolderIsMade("host_io_no_new/journal.0.new"),
+    Opens("host_io_no_new"),
+    RefusesToSync(Zero),
+    Has(Zero, b"abc"),
+    Writes(Zero, 3, b"d"),
+    RefusesToSync(Zero),
+    FolderIsRemoved("host_io_no_new/journal.0.new"),
+    Syncs(Zero),
+    FileHas("host_io_no_new/journal.0", b"abcd"),
+];
+
+const LINKED_ELSEWHERE: &[Row] = &[
+    FolderIsMade("host_io_link"),
+    FileIsMade("host_io_link/there", b"abc"),
+    LinkIsMade("host_io_link/journal.0", "there"),
+    Opens("host_io_link"),
+    Syncs(Zero),
+    Writes(Zero, 3, b"d"),
+    Syncs(Zero),
+    FileHas("host_io_link/there", b"abcd"),
+    FileIsNotThere("host_io_link/journal.0.new"),
+];
+
 const FOLDER_GONE: &[Row] = &[
     Opens("host_io_gone"),
     FolderIsRemoved("host_io_gone"),
@@ -250,6 +416,28 @@ const TESTS: &[Test] = &[
         FIRST_WRITE,
     ),
     (
+        "a_folder_is_held_by_one_disk_at_a_time",
+        "host_io_held",
+        HELD_FOLDER,
+    ),
+    ("a_folder_is_of_one_node", "host_io_named", NAMED_FOLDER),
+    (
+        "a_file_is_written_anew_at_its_first_sync",
+        "host_io_anew",
+        WRITTEN_ANEW,
+    ),
+    ("a_long_file_is_written_anew", "host_io_long", LONG_ANEW),
+    (
+        "a_file_that_cannot_be_written_anew_is_a_fault",
+        "host_io_no_new",
+        NO_ROOM_FOR_NEW,
+    ),
+    (
+        "a_link_is_not_written_anew",
+        "host_io_link",
+        LINKED_ELSEWHERE,
+    ),
+    (
         "a_file_that_cannot_be_made_is_a_fault_of_the_disk",
         "host_io_gone",
         FOLDER_GONE,
@@ -271,13 +459,5 @@ fn a_folder_keeps_what_is_written_or_refuses(rt: HostRuntime) -> Result<(), Fail
     for test in TESTS {
         run(&rt, test)?;
     }
-    Ok(())
-}
-
-#[test]
-fn the_standard_output_takes_bytes(rt: HostRuntime) -> Result<(), Fail> {
-    let mut output = StandardOutput::new(rt.stdout());
-    assert!(rt; output.write(b"") == Ok(0));
-    assert!(rt; output.write(b"\n") == Ok(1));
     Ok(())
 }

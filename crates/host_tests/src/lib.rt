@@ -7,6 +7,8 @@ mod host_io_child_tests;
 #[cfg(test)]
 mod host_io_link_tests;
 #[cfg(test)]
+mod host_io_stream_tests;
+#[cfg(test)]
 mod host_io_tests;
 #[cfg(test)]
 mod hosts;

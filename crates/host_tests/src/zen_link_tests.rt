@@ -96,6 +96,7 @@ fn input_letter(input: &Input) -> u8 {
         Input::Bytes { .. } => b'b',
         Input::Closed { .. } => b'c',
         Input::Tick { .. } => b't',
+        Input::Disconnected { .. } => b'd',
         Input::Stop => b's',
     }
 }
