@@ -5,6 +5,7 @@ pub mod Done
 pub mod Stepping
 pub mod Interleaving
 pub mod Assembly
+pub mod Older
 pub mod Orders
 pub mod Restarting
 pub mod RunsKept

@@ -6,3 +6,4 @@ pub mod Moments
 pub mod Restarts
 pub mod VotingOnly
 pub mod RestartedSystems
+pub mod OlderSystems

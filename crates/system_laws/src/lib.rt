@@ -13,6 +13,7 @@ ghost use Rattle.system_laws.specs.Laws.{
   LawSystemIsSafe,
 };
 ghost use Rattle.system_laws.specs.VotingOnly.{LawVotingOnlyNeverLeads, LawVotingOnlyNeverWins};
+ghost use Rattle.system_laws.specs.OlderSystems.{LawOlderSystemIsSafe};
 ghost use Rattle.system_laws.specs.RestartedSystems.{
   LawRestartedLivesAssemble,
   LawRestartedLost,
@@ -100,4 +101,10 @@ pub fn law_restarted_system_is_safe()
 /// above its own.
 pub fn law_restarted_lost()
     ensures { LawRestartedLost }
+{}
+
+/// Runs of nodes whose journals were begun before states had parents go on with what these nodes did then, and all of it is
+/// safe, if read without parents.
+pub fn law_older_system_is_safe()
+    ensures { LawOlderSystemIsSafe }
 {}
