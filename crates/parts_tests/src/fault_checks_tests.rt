@@ -1,4 +1,4 @@
-//! A follower that never answers, one that lags, and a leader that refuses, tick by tick. The moments were worked out from the
+//! A follower that never answers, one that lags, one whose connection ends, and a leader that refuses, tick by tick. The moments were worked out from the
 //! numbers of docs/policy.md.
 use crate::names::{id, list};
 use cluster_state::StateId;
@@ -29,13 +29,17 @@ enum Named {
     ToDropForLag,
 }
 
-// What comes of the checks of b, by version and moment, or where a tick names it.
+// What comes of the checks of b, by version and moment, where a tick names it, or whether it is watched.
 #[derive(Clone, Copy)]
 enum Row {
     Watched(u64),
     Answers(u64, u64),
     Finished(u64, u64),
     Ticks(u64, Named),
+    LosesB,
+    LosesC,
+    IsWatched,
+    IsNotWatched,
 }
 
 fn is_checked(checks: &mut FollowerChecks, row: Row) -> bool {
@@ -53,6 +57,16 @@ fn is_checked(checks: &mut FollowerChecks, row: Row) -> bool {
             true
         }
         Row::Ticks(now, named) => is_named(&checks.tick(now), named),
+        Row::LosesB => {
+            checks.disconnected(b());
+            true
+        }
+        Row::LosesC => {
+            checks.disconnected(id("c"));
+            true
+        }
+        Row::IsWatched => checks.watches(b()) && is_b(&checks.watched(), 1),
+        Row::IsNotWatched => !checks.watches(b()) && is_b(&checks.watched(), 0),
     }
 }
 
@@ -128,6 +142,22 @@ const HISTORIES: &[&[Row]] = &[
         Row::Ticks(1_000, Named::ToAsk),
         Row::Answers(1, 1_000),
         Row::Ticks(90_000, Named::ToDropForLag),
+    ],
+    // It is watched no more once its own connection has ended, and begins anew where a later state names it.
+    &[
+        Row::IsNotWatched,
+        Row::Watched(0),
+        Row::IsWatched,
+        Row::Ticks(1_000, Named::ToAsk),
+        Row::LosesC,
+        Row::IsWatched,
+        Row::LosesB,
+        Row::IsNotWatched,
+        Row::Ticks(12_000, Named::Nowhere),
+        Row::Watched(12_500),
+        Row::IsWatched,
+        Row::Ticks(13_499, Named::Nowhere),
+        Row::Ticks(13_500, Named::ToAsk),
     ],
 ];
 

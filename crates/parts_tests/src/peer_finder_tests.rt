@@ -36,6 +36,8 @@ enum Call {
     Answered(u8),
     AnsweredWith(u8, u8),
     ForgetAnswers(u64),
+    Disconnected(u8, u64),
+    Hold(u64, u64),
     AsksBoth(u64),
     AsksNobody(u64),
     IsDue(u64, bool),
@@ -54,6 +56,8 @@ fn act(finder: &mut PeerFinder, call: Call) {
         Call::Answered(peer) => finder.answered(letter(peer), None),
         Call::AnsweredWith(peer, master) => finder.answered(letter(peer), Some(letter(master))),
         Call::ForgetAnswers(now) => finder.forget_answers(now),
+        Call::Disconnected(peer, now) => finder.disconnected(letter(peer), now),
+        Call::Hold(now, wait) => finder.hold(now, wait),
         Call::AsksBoth(_)
         | Call::AsksNobody(_)
         | Call::IsDue(_, _)
@@ -85,7 +89,9 @@ fn holds(finder: &PeerFinder, call: Call) -> bool {
         | Call::Asked(_)
         | Call::Answered(_)
         | Call::AnsweredWith(_, _)
-        | Call::ForgetAnswers(_) => true,
+        | Call::ForgetAnswers(_)
+        | Call::Disconnected(_, _)
+        | Call::Hold(_, _) => true,
     }
 }
 
@@ -118,6 +124,18 @@ const CALLS: &[Call] = &[
     Call::ForgetAnswers(100),
     Call::HasNotFound(b'b'),
     Call::AsksBoth(100),
+    // Whose connection has ended has not answered, and the others have.
+    Call::Asked(200),
+    Call::AnsweredWith(b'b', b'c'),
+    Call::Answered(b'c'),
+    Call::AsksNobody(300),
+    Call::Disconnected(b'b', 300),
+    Call::HasNotFound(b'b'),
+    Call::FoundNoMaster(b'c'),
+    Call::AsksBoth(300),
+    Call::Hold(300, 50),
+    Call::AsksNobody(349),
+    Call::AsksBoth(350),
 ];
 
 #[test]
