@@ -3,6 +3,7 @@ use Rattle.std.proofs.Common.{◌≡◌, false, inr, None, List, [], ◌∷◌, 
 use Rattle.std.specs.List.{All}
 use Rattle.std.proofs.lemmas.List.Elements.{All-cons, All-head, All-tail}
 use Rattle.voting_config.specs.Ids.{Id}
+use Rattle.cluster_state.specs.declared.state.ClusterState.{ClusterState}
 use Rattle.master_tasks.specs.declared.waiting.Outgoing.{Outgoing}
 use Rattle.world_model.specs.declared.acts.Act.TheVariants.{Open}
 use Rattle.world_model.specs.declared.acts.Outcome.TheVariants.{Answered}
@@ -10,19 +11,25 @@ use Rattle.world_model.specs.declared.acts.ActReply.TheVariants.{Taken}
 use Rattle.world_model.specs.Acts.{NodeHistory, Then}
 use Rattle.world_model.specs.Histories.{History, node_history}
 use Rattle.world_model.specs.Local.{then_run}
+use Rattle.world_model.specs.NodeState.{initial_state}
+use Rattle.world_model.proofs.System.{IsSystem}
+use Rattle.world_model.proofs.Legal.{system_of_legal, system_of_grounded}
+use Rattle.world_model.proofs.Restarted.{grounded_of_restarted}
 use Rattle.world_model.proofs.Moments.{Begins as IsBeginning, begins_self}
 use Rattle.policy_model.specs.declared.settings.Settings.{Settings}
+use Rattle.policy_model.specs.declared.events.Event.{Event}
 use Rattle.policy_model.specs.Events.{Item, Opens, Begins, Acts, ChangesMode, Drops, Sends, Replies, Notes, Log, And, added, acts_of}
 use Rattle.policy_model.specs.Entries.{Life, Lived, Did, log_of, replies_of}
 use Rattle.policy_model.specs.Follows.{items_of}
 use Rattle.client_guarantees.specs.Laws.{IsRunIn}
-use Rattle.client_guarantees.specs.Replies.{IsTrueReply}
-use Rattle.client_guarantees.proofs.Laws.{replies_are_true, part_replies_are_true, restarted_replies_are_true}
+use Rattle.client_guarantees.specs.Replies.{IsTrueReply, AreTrue}
+use Rattle.client_guarantees.proofs.Laws.{replies_are_true, restarted_replies_are_true}
+use Rattle.client_guarantees.proofs.Lives.{part_replies_true}
 use Rattle.client_guarantees.proofs.Running.{Rest, rest-of}
-use Rattle.system_laws.specs.Systems.{history_of, IsDoneOf, Killed, InAct, Also, Unsent, Unanswered}
+use Rattle.system_laws.specs.Systems.{System, history_of, IsDoneOf, Killed, InAct, Also, Unsent, Unanswered}
 use Rattle.system_laws.proofs.RunsKept.{going, going-from, IsOfNode, had-lived, IsKilledOf, was-killed}
 use Rattle.system_laws.proofs.Assembly.{lives_assemble, lives_assemble_from}
-use Rattle.cluster_replay.specs.SystemReplies.{LawSystemRepliesAreTrue, LawKilledRepliesAreTrue, LawRestartedSystemRepliesAreTrue}
+use Rattle.cluster_replay.specs.SystemReplies.{LawSystemRepliesAreTrue, LawKilledRepliesAreTrue, LawRestartedSystemRepliesAreTrue, LawRestartedKilledRepliesAreTrue}
 
 run-in : (h : History) (n : Id) (s : Settings) (life : Life) → IsOfNode (node_history h n) n s life → IsRunIn h s life
 run-in h n s life r =
@@ -94,14 +101,19 @@ part-of l k items done e (Unanswered answer rest some d) =
       answers = λ P a. more.answers P (All-tail P answer (replies_of more.prefix) a);
     }
 
-pub killed_replies_are_true : LawKilledRepliesAreTrue
-killed_replies_are_true initial h is n s life event done was =
-    let k : IsKilledOf (node_history (history_of h) n) n s life event done = was-killed initial h (going initial h is.runs) n s life event done was in
+killed-truly : (h : System) (root : ClusterState) → IsSystem (node_history (history_of h)) root → (n : Id) (s : Settings) (life : Life) (event : Event) (done : List Item)
+    → IsKilledOf (node_history (history_of h) n) n s life event done → AreTrue (history_of h) s (Lived life (Did event (items_of s (log_of life) event))) done
+killed-truly h root system n s life event done k =
     let part = part-of (And (log_of life) (Begins event)) (And (log_of life) (Begins event)) (items_of s (log_of life) event) done refl k.did in
     part.answers (λ (out : Outgoing). IsTrueReply (history_of h) s (Lived life (Did event (items_of s (log_of life) event))) out.conn out.reply)
-    (part_replies_are_true initial (history_of h) (lives_assemble initial h is) s k.before (acts_of (added (And (log_of life) (Begins event)) done)) k.opens
+    (part_replies_true (history_of h) root system s k.before (acts_of (added (And (log_of life) (Begins event)) done)) k.opens
     (subst (λ (x : Id). IsBeginning (then_run k.before (acts_of (added (And (log_of life) (Begins event)) done))) (node_history (history_of h) x)) (sym k.me) k.begins)
     life event part.prefix part.rest k.follows part.whole part.acts)
+
+pub killed_replies_are_true : LawKilledRepliesAreTrue
+killed_replies_are_true initial h is n s life event done was =
+    killed-truly h (initial_state initial) (system_of_legal initial (history_of h) (lives_assemble initial h is)) n s life event done
+    (was-killed initial h (going initial h is.runs) n s life event done was)
 
 -- ---- from the restart of one node on
 
@@ -109,3 +121,8 @@ pub restarted_system_replies_are_true : LawRestartedSystemRepliesAreTrue
 restarted_system_replies_are_true first kept h alone is n s life lived =
     restarted_replies_are_true first kept (history_of h) alone (lives_assemble_from first kept h is) s life
     (run-in (history_of h) n s life (had-lived [] h (going-from first kept h is.runs) n s life lived))
+
+pub restarted_killed_replies_are_true : LawRestartedKilledRepliesAreTrue
+restarted_killed_replies_are_true first kept h alone is n s life event done was =
+    killed-truly h kept.accepted (system_of_grounded kept.accepted (history_of h) (grounded_of_restarted first kept alone (history_of h) (lives_assemble_from first kept h is))) n s life event done
+    (was-killed [] h (going-from first kept h is.runs) n s life event done was)

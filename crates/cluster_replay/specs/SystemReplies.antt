@@ -33,3 +33,10 @@ abbrev pub LawRestartedSystemRepliesAreTrue : Type 0
 LawRestartedSystemRepliesAreTrue =
     (first : Id) (kept : Kept) (h : System) → IsAlone first kept → IsSystemFrom first kept h
     → (n : Id) (s : Settings) (life : Life) → HadLived h n s life → RepliesTruly (history_of h) s life
+
+-- and so is each reply that a node sent there of an event within which it was killed
+abbrev pub LawRestartedKilledRepliesAreTrue : Type 0
+LawRestartedKilledRepliesAreTrue =
+    (first : Id) (kept : Kept) (h : System) → IsAlone first kept → IsSystemFrom first kept h
+    → (n : Id) (s : Settings) (life : Life) (event : Event) (done : List Item) → WasKilled h n s life event done
+    → AreTrue (history_of h) s (Lived life (Did event (items_of s (log_of life) event))) done

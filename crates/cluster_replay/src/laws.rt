@@ -12,6 +12,7 @@ ghost use Rattle.cluster_replay.specs.Lasting.{
 ghost use Rattle.cluster_replay.specs.SystemReplies.{
   LawKilledRepliesAreTrue,
   LawRestartedSystemRepliesAreTrue,
+  LawRestartedKilledRepliesAreTrue,
   LawSystemRepliesAreTrue,
 };
 
@@ -75,6 +76,11 @@ pub fn law_system_acks_last()
 /// by the tools.
 pub fn law_restarted_system_replies_are_true()
     ensures { LawRestartedSystemRepliesAreTrue }
+{}
+
+/// So is each reply that a node sent there of an event within which it was killed.
+pub fn law_restarted_killed_replies_are_true()
+    ensures { LawRestartedKilledRepliesAreTrue }
 {}
 
 /// And what is committed, and acked, there lasts.

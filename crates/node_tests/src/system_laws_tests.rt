@@ -17,4 +17,5 @@ fn the_laws_can_be_called() {
     law_restarted_lives_assemble();
     law_restarted_system_is_safe();
     law_restarted_lost();
+    law_older_system_is_safe();
 }

@@ -13,6 +13,7 @@ fn the_laws_can_be_called() {
     law_system_settings_last();
     law_system_acks_last();
     law_restarted_system_replies_are_true();
+    law_restarted_killed_replies_are_true();
     law_restarted_settings_last();
     law_restarted_acks_last();
     law_killed_replies_are_true();
