@@ -87,6 +87,29 @@ const ACKNOWLEDGED: Passage = &[
     r#"reply a {"acked":{"term":1,"version":2},"id":2}"#,
 ];
 
+// A put of what the state before last had makes a state of its own, and is acked with that one at its commit, and with no older one.
+const OWN_STATE: Passage = &[
+    r#"> client a {"id":3,"put":{"key":"k","value":"w"}}"#,
+    "...",
+    "> deliver a 9",
+    "...",
+    "> deliver a 10",
+    "...",
+    "m11 a->a commit 1/3",
+    r#"reply a {"acked":{"term":1,"version":3},"id":3}"#,
+    "> deliver a 11",
+    "...",
+    r#"> client a {"id":4,"put":{"key":"k","value":"v"}}"#,
+    r#"act a ok value 4 a {"exclusions":[],"master":"a","members":["a"],"settings":{"k":"v"}}"#,
+    r#"m12 a->a publish {"committed":["a"],"config":["a"],"parent":{"term":1,"version":3},"term":1,"value":{"exclusions":[],"master":"a","members":["a"],"settings":{"k":"v"}},"version":4}"#,
+    "> deliver a 12",
+    "...",
+    "> deliver a 13",
+    "...",
+    "m14 a->a commit 1/4",
+    r#"reply a {"acked":{"term":1,"version":4},"id":4}"#,
+];
+
 const NAMES_ITS_LEADER: Passage = &[
     r#"> client b {"id":1,"state":{}}"#,
     r#"reply b {"id":1,"not_master":"a"}"#,
@@ -407,6 +430,11 @@ const ROWS: &[(&str, Passage, &[Passage])] = &[
         "a_node_alone_elects_itself_and_acknowledges_a_put_as_its_commit_is_sent",
         ONE,
         &[LEADER, ACKNOWLEDGED],
+    ),
+    (
+        "a_put_is_acked_with_no_state_that_is_older_than_its_line",
+        ONE,
+        &[LEADER, ACKNOWLEDGED, OWN_STATE],
     ),
     (
         "the_second_of_two_nodes_joins_and_follows_and_names_its_leader",
