@@ -17,7 +17,7 @@ use Rattle.coord_state.specs.StandsFor.{fields_of}
 use Rattle.coord_state.specs.declared.coord.CoordState.{CoordState}
 use Rattle.policy_model.specs.declared.settings.Settings.{Settings}
 use Rattle.policy_model.specs.declared.events.Event.{Event}
-use Rattle.policy_model.specs.declared.events.Event.TheVariants.{Start, Tick, Frame as FrameCame, Client as LineCame}
+use Rattle.policy_model.specs.declared.events.Event.TheVariants.{Start, Tick, Frame as FrameCame, Client as LineCame, Disconnected as PeerGone}
 use Rattle.policy_model.specs.Events.{acts_of, Item, Opens, Begins, Acts, ChangesMode, Drops, Sends, Replies, Notes, And, added}
 use Rattle.policy_model.specs.Entries.{Life, log_of}
 use Rattle.policy_model.specs.Views.{View, view_of}
@@ -101,6 +101,7 @@ begun_within v Start h = h
 begun_within v (Tick now word) h = capped v.moment now last_moment h
 begun_within v (FrameCame frame) h = h
 begun_within v (LineCame conn line) h = h
+begun_within v (PeerGone peer) h = h
 
 disk_of : (o : Outcome) → is_fault o ≡ true → is_crashed o ≡ false → is_disk o ≡ true
 disk_of (Answered reply) f c = cc

@@ -8,7 +8,7 @@ use Rattle.wire_frames.specs.Frames.{IsFitFrame}
 use Rattle.master_tasks.specs.declared.waiting.Outgoing.{Outgoing}
 use Rattle.master_tasks.specs.Queue.{most_open}
 use Rattle.policy_model.specs.declared.events.Event.{Event}
-use Rattle.policy_model.specs.declared.events.Event.TheVariants.{Start, Tick, Frame as FrameCame, Client as LineCame}
+use Rattle.policy_model.specs.declared.events.Event.TheVariants.{Start, Tick, Frame as FrameCame, Client as LineCame, Disconnected as PeerGone}
 use Rattle.policy_model.specs.declared.events.Deed.{Deed}
 use Rattle.policy_model.specs.Bounds.{IsSmallView, EventHoldsSet, most_frames}
 use Rattle.policy_model.specs.Fitting.{IsFitView, IsFitEvent, EventHoldsSettings}
@@ -37,18 +37,21 @@ fit_begun v Start fit = fit
 fit_begun v (Tick now word) fit = record { term = fit.term; accepted = fit.accepted; older = fit.older; settings = fit.settings; applied_id = fit.applied_id; terms = fit.terms; good = fit.good }
 fit_begun v (FrameCame frame) fit = fit
 fit_begun v (LineCame conn line) fit = fit
+fit_begun v (PeerGone peer) fit = fit
 
 waiting_begun : (v : View) (event : Event) → (begun v event).tasks.waiting ≡ v.tasks.waiting
 waiting_begun v Start = refl
 waiting_begun v (Tick now word) = refl
 waiting_begun v (FrameCame frame) = refl
 waiting_begun v (LineCame conn line) = refl
+waiting_begun v (PeerGone peer) = refl
 
 small_begun : (v : View) (event : Event) → IsSmallView v → IsSmallView (begun v event)
 small_begun v Start small = small
 small_begun v (Tick now word) small = small
 small_begun v (FrameCame frame) small = small
 small_begun v (LineCame conn line) small = small
+small_begun v (PeerGone peer) small = small
 
 module _ {K : Type 0} (k : Ghosts K) where
   -- what is sealed

@@ -3,12 +3,12 @@ use Rattle.std.specs.Prelude.{◌≡◌, ◌≤◌, ℕ, true, false, Result, Ok
 use Rattle.state_journal.specs.declared.keeper.Keeper.{Ghosts}
 use Rattle.zen_disk.specs.Faults.{Rose}
 use Rattle.policy_model.specs.declared.events.Event.{Event}
-use Rattle.policy_model.specs.declared.events.Event.TheVariants.{Start, Tick, Frame as FrameCame, Client as LineCame}
+use Rattle.policy_model.specs.declared.events.Event.TheVariants.{Start, Tick, Frame as FrameCame, Client as LineCame, Disconnected as PeerGone}
 use Rattle.policy_model.specs.Events.{Item}
 use Rattle.policy_model.specs.Entries.{deeds_of, drops_of, frames_of, replies_of, by_member, by_receiver}
 use Rattle.policy_model.specs.Follows.{IsStruck}
 use Rattle.coordinator.specs.Lives.{Enters}
-use Rattle.coordinator.specs.Rooms.{event_deeds, tick_drops, to_set_and_one, to_three_sets}
+use Rattle.coordinator.specs.Rooms.{event_deeds, loss_deeds, tick_drops, to_set, to_set_and_one, to_three_sets}
 use Rattle.coordinator.specs.Showing.{Shown}
 use Rattle.coordinator.specs.declared.coordinator.Coordinator.{Coordinator}
 use Rattle.coordinator.specs.declared.coordinator.EventError.{EventError}
@@ -24,12 +24,14 @@ deeds_for Start = 0
 deeds_for (Tick now word) = event_deeds
 deeds_for (FrameCame frame) = event_deeds
 deeds_for (LineCame conn line) = 0
+deeds_for (PeerGone peer) = loss_deeds
 
 abbrev pub drops_for : Event → ℕ
 drops_for Start = 0
 drops_for (Tick now word) = tick_drops
 drops_for (FrameCame frame) = 0
 drops_for (LineCame conn line) = 0
+drops_for (PeerGone peer) = 1
 
 -- room for three sets of ids at a tick, of which one asks for peers, one for pre-votes and one starts joins; no node sends more than 190
 -- (most_frames of policy_model)
@@ -38,6 +40,7 @@ frames_for Start = 0
 frames_for (Tick now word) = to_three_sets
 frames_for (FrameCame frame) = to_set_and_one
 frames_for (LineCame conn line) = 0
+frames_for (PeerGone peer) = to_set
 
 -- the entries are the deeds and the drops of these items
 pub record AreEntries (e : Event) (items : List Item) (entries : Entries) : Type 0 where

@@ -1,11 +1,12 @@
 //! The acts of the core, each with its entry.
-ghost use Rattle.std.specs.Prelude.{◌≡◌, ◌≤◌, ◌<◌, [], ◌∷◌, true, Some, IfOk, is_ok, if◌then◌else◌};
+ghost use Rattle.std.specs.Prelude.{◌≡◌, ◌≤◌, ◌<◌, [], ◌∷◌, true, None, Some, IfOk, is_ok, if◌then◌else◌};
 ghost use Rattle.cluster_state.specs.Initial.{initial_state};
-ghost use Rattle.policy_model.specs.Parts.{published_at, watched, finished, state_finished, responded};
+ghost use Rattle.policy_model.specs.Parts.{next_attempt as next_attempt_of, published_at, watched, finished, state_finished, responded};
 ghost use Rattle.world_model.specs.declared.acts.Act.TheVariants as act;
 ghost use Rattle.policy_model.specs.Doing.{act_now, reply_now, takes};
 ghost use Rattle.voting_config.specs.Ids.{has_room as has_room_of};
 ghost use Rattle.policy_model.specs.Joins.{wins_now};
+ghost use Rattle.policy_model.specs.LookBacks.{yields as yields_of};
 ghost use Rattle.policy_model.specs.Publications.{commits_now};
 ghost use Rattle.coord_state.specs.StandsFor.{request_of};
 ghost use Rattle.coordinator.specs.Does.{Does};
@@ -13,6 +14,7 @@ ghost use Rattle.coordinator.specs.Rooms.{Uses};
 ghost use Rattle.coordinator.specs.Views.{view_in, IsReady};
 
 use crate::coordinator::{Coordinator, DiskFailed};
+use crate::elections::next_attempt;
 use crate::outcomes::{has_sent, has_won, verdict, was_taken};
 use crate::output::Output;
 use crate::plan::FirstState;
@@ -22,10 +24,11 @@ use cluster_state::{
 };
 use coord_state::{outcome_of, outcome_of_value};
 use fault_checks::FollowerChecks;
+use pre_vote::PreVotes;
 use publication::Publication;
 use state_journal::{Keeper, Ready};
 use voting_config::{IdList, NodeId};
-use world_model::Act;
+use world_model::{Act, Outcome};
 
 /// Whether a join was counted, and whether it won the election.
 #[derive(Clone, Copy)]
@@ -57,6 +60,13 @@ impl<K: Keeper> Coordinator<K> {
         verdict
     }
 
+    // Whether it stands in line, and joins another by this.
+    fn yields(&self, candidate: NodeId, outcome: &Outcome) -> bool
+        ensures { result ≡ yields_of self.now.settings self.now.election_rank candidate outcome.now }
+    {
+        was_taken(outcome) && 0 < self.election_rank && candidate != self.settings.me
+    }
+
     // Starts a join for a candidate in a term. Answers whether that was taken.
     pub(crate) fn act_start_join(
         &mut self,
@@ -70,10 +80,16 @@ impl<K: Keeper> Coordinator<K> {
             (is_ok result) }
         ensures taken { IfOk result (λ taken. taken ≡ takes self.old.settings (view_in K.Keeper self.old) (act.StartJoin candidate term)) }
         ensures uses { Uses out.old out.new 1 0 0 }
-        ensures rest { self.new ≡ record self.old { core = self.new.core } }
+        ensures tasks { self.new.tasks ≡ self.old.tasks }
     {
         let outcome = outcome_of(self.core.start_join(candidate, term));
         let verdict = verdict(&outcome);
+        wait_anew(
+            self.yields(candidate, &outcome),
+            &mut self.election_rank,
+            &mut self.deadline,
+            &mut self.round,
+        );
         out.act(Act::StartJoin(candidate, term), outcome);
         verdict
     }
@@ -206,6 +222,7 @@ impl<K: Keeper> Coordinator<K> {
             &mut self.applied,
             &mut self.publication,
             &mut self.followers,
+            &mut self.election_rank,
             accepted,
             self.moment,
         );
@@ -251,23 +268,40 @@ fn count_response(taken: bool, commits: bool, publication: &mut Option<Publicati
     }
 }
 
-// Where a commit is taken, its state is applied, and the publication is finished, unless it was before.
+// A node in line that joins another waits anew, one place later.
+fn wait_anew(yields: bool, rank: &mut u32, deadline: &mut Option<u64>, round: &mut Option<PreVotes>)
+    ensures rank { rank.new ≡ (if yields then next_attempt_of rank.old else rank.old) }
+    ensures deadline { deadline.new ≡ (if yields then None else deadline.old) }
+    ensures round { round.new ≡ (if yields then None else round.old) }
+{
+    if yields {
+        *rank = next_attempt(*rank);
+        *deadline = None;
+        *round = None;
+    }
+}
+
+// Where a commit is taken, its state is applied, the node stands in no line any more, and the publication is finished, unless it
+// was before.
 fn finish(
     taken: bool,
     applied: &mut StateId,
     publication: &mut Option<Publication>,
     followers: &mut FollowerChecks,
+    rank: &mut u32,
     id: StateId,
     now: u64,
 )
     ensures applied { applied.new ≡ (if taken then id else applied.old) }
     ensures publication { publication.new ≡ (if taken then finished publication.old else publication.old) }
     ensures followers { followers.new ≡ (if taken then state_finished publication.old followers.old id now else followers.old) }
+    ensures rank { rank.new ≡ (if taken then 0 else rank.old) }
 {
     if !taken {
         return;
     }
     *applied = id;
+    *rank = 0;
     match publication {
         None => {}
         Some(publication) => {

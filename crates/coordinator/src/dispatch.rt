@@ -8,7 +8,7 @@ ghost use Rattle.policy_model.specs.Parts.{last_moment};
 ghost use Rattle.policy_model.specs.Rules.{takes_frame, takes_message};
 ghost use Rattle.coordinator.specs.Does.{DoesAll};
 ghost use Rattle.coordinator.specs.Lives.{DoesEvent};
-ghost use Rattle.coordinator.specs.Rooms.{event_deeds, tick_drops, to_set_and_one, to_three_sets};
+ghost use Rattle.coordinator.specs.Rooms.{event_deeds, loss_deeds, tick_drops, to_set, to_set_and_one, to_three_sets};
 ghost use Rattle.coordinator.specs.Steps.{deeds_for, drops_for, frames_for};
 ghost use Rattle.coordinator.specs.Views.{IsReady};
 
@@ -151,6 +151,17 @@ impl<K: Keeper> Coordinator<K> {
         self.takes_line(out, conn, line)
     }
 
+    // The connection to a node has ended.
+    fn on_disconnected(&mut self, out: &mut Output, peer: NodeId) -> Result<(), EventError>
+        requires ready { IsReady self.old }
+        requires deeds { loss_deeds ≤ out.old.deeds.room }
+        requires drops { 1 ≤ out.old.drops.room }
+        requires frames { to_set ≤ out.old.frames.room }
+        ensures { DoesEvent K.Keeper self.old self.new (event.Disconnected peer) out.old out.new result }
+    {
+        self.lose(out, peer)
+    }
+
     /// What the node does at an event, by its kind.
     pub(crate) fn take_event(&mut self, out: &mut Output, event: &Event) -> Result<(), EventError>
         requires ready { IsReady self.old }
@@ -166,6 +177,7 @@ impl<K: Keeper> Coordinator<K> {
             Event::Tick { now, word } => self.on_tick(out, *now, *word),
             Event::Frame(frame) => self.on_frame(out, frame.frame()),
             Event::Client { conn, line } => self.on_line(out, *conn, line),
+            Event::Disconnected { peer } => self.on_disconnected(out, *peer),
         }
     }
 }

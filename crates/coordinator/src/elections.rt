@@ -30,7 +30,7 @@ use voting_config::{NodeId, NodeSet};
 use wire_frames::Frame;
 
 // Attempts are counted up to this one.
-const MOST_ATTEMPTS: u64 = 99;
+const MOST_ATTEMPTS: u32 = 99;
 
 // The set without an id.
 fn without(ids: &NodeSet, id: NodeId) -> NodeSet
@@ -41,7 +41,8 @@ fn without(ids: &NodeSet, id: NodeId) -> NodeSet
     others
 }
 
-fn next_attempt(attempt: u64) -> u64
+/// One more, up to the most that are counted.
+pub(crate) fn next_attempt(attempt: u32) -> u32
     ensures { result ≡ next_attempt_of attempt }
 {
     if attempt < MOST_ATTEMPTS {
@@ -172,7 +173,7 @@ impl<K: Keeper> Coordinator<K> {
     }
 
     // Whether these are an election quorum.
-    fn elects(&self, ids: &NodeSet) -> bool
+    pub(crate) fn elects(&self, ids: &NodeSet) -> bool
         ensures { result ≡ elects_of (view_in K.Keeper self.now).node ids.now }
     {
         self.core.committed().is_quorum(ids) && self.core.accepted().config.is_quorum(ids)
@@ -222,7 +223,7 @@ impl<K: Keeper> Coordinator<K> {
         let round = self.new_round();
         self.round = Some(round);
         self.attempt = attempt;
-        self.deadline = Some(self.moment + delay(attempt, word) + DURATION_MS);
+        self.deadline = Some(self.moment + delay(attempt as u64, word) + DURATION_MS);
     }
 
     // A round of pre-votes, which a node that is a quorum alone ends at once.
@@ -250,7 +251,8 @@ impl<K: Keeper> Coordinator<K> {
         match deadline {
             None => {
                 self.attempt = 0;
-                self.deadline = Some(self.moment + delay(0, word));
+                let before = self.election_rank.saturating_sub(1) as u64;
+                self.deadline = Some(self.moment + delay(0, word) + DURATION_MS * before);
             }
             Some(deadline) => {
                 if due(deadline, self.moment) {

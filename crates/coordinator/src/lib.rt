@@ -13,6 +13,7 @@ mod elections;
 mod following;
 mod joining;
 mod lines;
+mod losing;
 mod modes;
 mod next;
 mod opening;

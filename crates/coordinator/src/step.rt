@@ -33,6 +33,9 @@ const TICK_FRAMES: usize = 3 * MAX_IDS;
 /// How many frames a frame's event has room for: to all members, and one more.
 const EVENT_FRAMES: usize = MAX_IDS + 1;
 
+/// How many deeds the end of a connection has at most: a state that is refused, and a mode.
+const LOSS_DEEDS: usize = 2;
+
 /// What an event comes to beside frames and replies.
 #[derive(Drop)]
 pub struct Entries {
@@ -124,6 +127,7 @@ pub(crate) fn make_lists(out: &mut Output, event: &Event) -> Result<(), AllocErr
         Event::Start | Event::Client { .. } => return Ok(()),
         Event::Tick { .. } => (MOST_DEEDS, TICK_DROPS, TICK_FRAMES),
         Event::Frame(_) => (MOST_DEEDS, 0, EVENT_FRAMES),
+        Event::Disconnected { .. } => (LOSS_DEEDS, 1, MAX_IDS),
     };
     out.make_lists(deeds, drops, frames)?;
     Ok(())
