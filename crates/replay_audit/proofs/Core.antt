@@ -42,7 +42,7 @@ use Rattle.replay_audit.specs.Audits.{recorded_trace, CanBeAudited, IsTraceOf, F
 use Rattle.replay_audit.proofs.Entries.{after_entries, entries_of, steps_entries, traced_count, with_numbered}
 use Rattle.replay_audit.proofs.Readable.{IsGivenAct}
 use Rattle.replay_audit.proofs.Counting.{Reads, shows}
-use Rattle.replay_audit.proofs.Steps.{IsGiven, counts_of, steps_show}
+use Rattle.replay_audit.proofs.Steps.{IsGiven, counts_of, state_lines_of, steps_show, won_lines_of}
 
 -- ---- what the lines of a schedule give
 
@@ -83,6 +83,7 @@ module _ (nodes initial : List Id) (each : IsTrue (list_all is_id nodes)) where
   line_given w (line.Fail n count) f = tt
   line_given w (line.Tick n now word) f = absurd f
   line_given w (line.Client n bytes) f = absurd f
+  line_given w (line.Disconnect n peer) f = absurd f
 
   all_given : (xs ys : List TracePart) → AllByRecursion (IsGiven Core nodes) xs → AllByRecursion (IsGiven Core nodes) ys → AllByRecursion (IsGiven Core nodes) (xs ++ ys)
   all_given [] ys a b = b
@@ -101,18 +102,18 @@ read_as initial text entries h set some short shows is =
     record { trace = r.trace; read = r.read; from = r.from; history = with_numbered NoEntries r.trace.entries ∙ ap (λ (xs : List Entry). after_entries NoEntries xs) r.shows ∙ is }
 
 -- the trace by its parts
-pub trace_reads : (s : Schedule) → IsWellFormed s → CanBeAudited Core s → Reads (trace_at Core s) (entries_of (trace_parts s)) (counts_of (trace_parts s))
+pub trace_reads : (s : Schedule) → IsWellFormed s → CanBeAudited Core s → Reads (trace_at Core s) (entries_of (trace_parts s)) (counts_of (trace_parts s)) (won_lines_of (trace_parts s)) (state_lines_of (trace_parts s))
 trace_reads s formed can =
     let t = tells s in
     let sound = schedule_sound s formed in
     let listed = fits_ids most_ids s.initial can.initial can.initial.fits in
     let short : 0 + length (text_of (trace_parts s)) ≤ most_bytes = omega (arith, can.short, length-append (header s.initial) (trace_at Core s), ap (λ (xs : List ℕ). length xs) t.text) in
-    subst (λ (xs : List ℕ). Reads xs (entries_of (trace_parts s)) (counts_of (trace_parts s))) (sym t.text)
+    subst (λ (xs : List ℕ). Reads xs (entries_of (trace_parts s)) (counts_of (trace_parts s)) (won_lines_of (trace_parts s)) (state_lines_of (trace_parts s))) (sym t.text)
     (steps_show s.initial listed Core s.nodes NoEntries (trace_parts s) can.nodes sound (lines_given s.nodes s.initial can.nodes.each fresh_world s.lines formed.fit) tt short)
 
 pub replay_read : LawReplayIsRead
 replay_read s formed can =
-    read_as s.initial (trace_at Core s) (entries_of (trace_parts s)) (replayed s) can.initial can.some_initial can.short (shows _ _ _ (trace_reads s formed can))
+    read_as s.initial (trace_at Core s) (entries_of (trace_parts s)) (replayed s) can.initial can.some_initial can.short (shows _ _ _ _ _ (trace_reads s formed can))
     (steps_entries s.initial NoEntries (trace_parts s) (schedule_sound s formed) ∙ (tells s).history)
 
 -- ---- what an audit finds

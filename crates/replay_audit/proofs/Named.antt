@@ -16,7 +16,7 @@ use Rattle.schedule_text.specs.declared.schedule.Line.TheVariants as line
 use Rattle.line_laws.specs.Fits.{FitsFrame, FitsFrameMessage, FitsMaster, FitsMode}
 use Rattle.line_laws.specs.Readable.{IsReadable}
 use Rattle.policy_model.specs.declared.events.Event.{Event}
-use Rattle.policy_model.specs.declared.events.Event.TheVariants.{Start, Tick, Frame as FrameCame, Client as LineCame}
+use Rattle.policy_model.specs.declared.events.Event.TheVariants.{Start, Tick, Frame as FrameCame, Client as LineCame, Disconnected as PeerGone}
 use Rattle.policy_model.specs.declared.events.MemberDrop.{MemberDrop}
 use Rattle.policy_model.specs.declared.events.Mode.{Mode}
 use Rattle.policy_model.specs.declared.events.Mode.TheVariants.{Candidate, Leader, Follower}
@@ -222,6 +222,7 @@ module _ (nodes initial voting_only : List Id) (ids : IsIdSet nodes) (set : IsId
   named_line : (c : Cluster) (l : Line) → has (node_of l) nodes ≡ true → SoundCluster nodes initial voting_only c → AreNamed (line_parts nodes initial voting_only c l)
   named_line c (line.Tick n now word) f h = named_event_if_up n (Tick now word) c f (λ runs. event_named nodes initial voting_only ids set n (Tick now word) c f refl tt h runs)
   named_line c (line.Client n bytes) f h = named_event_if_up n (LineCame 0 bytes) c f (λ runs. event_named nodes initial voting_only ids set n (LineCame 0 bytes) c f refl (good-asks bytes) h runs)
+  named_line c (line.Disconnect n peer) f h = named_event_if_up n (PeerGone peer) c f (λ runs. event_named nodes initial voting_only ids set n (PeerGone peer) c f refl tt h runs)
   named_line c (line.Deliver n number) f h = named_frame n (number - 1) (frame_at c number) c f refl h
   named_line c (line.Crash n way) f h = named_one (c.world.down n) (Shared (WasDown n)) (Shared (WentDown n)) tt tt
   named_line c (line.Restart n) f h = named_restart n c f h

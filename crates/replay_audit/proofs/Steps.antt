@@ -1,5 +1,5 @@
 -- The lines of each part show its entries.
-use Rattle.std.proofs.Common.{◌≡◌, ℕ, ◌+◌, ◌≤◌, Bool, true, false, cond, Option, None, Some, List, [], ◌∷◌, length, refl, sym, ap, subst, IsTrue, arith, length-append, codes, decimal, ◌++◌}
+use Rattle.std.proofs.Common.{◌≡◌, ℕ, ◌+◌, ◌≤◌, Bool, true, false, cond, Option, None, Some, List, [], ◌∷◌, length, refl, sym, ap, subst, IsTrue, arith, length-append, append-nil, codes, decimal, map, ◌++◌}
 use Rattle.std.specs.Prelude.{Contains}
 use Rattle.std.specs.List.{AllByRecursion}
 use Rattle.voting_config.specs.Ids.{Id, is_id, IsIdSet}
@@ -32,13 +32,14 @@ use Rattle.replay_node.specs.Did.{won_by}
 use Rattle.replay_node.specs.Sent.{taking}
 use Rattle.schedule_replay.specs.ActShown.{act_shown, won_term, state_committed, message_sent}
 use Rattle.schedule_replay.specs.Parts.{ActShown, TracePart, Echo, Did, Opened, WasDown, WasUp, WentDown, DiskFailed, Unsent, sends_text, shown_text, part_text, text_of}
-use Rattle.schedule_replay.specs.HistoryShown.{outcome_shown, history_shown_by}
+use Rattle.schedule_replay.specs.HistoryShown.{outcome_shown, history_shown_by, some_state, some_win, state_in, win_in}
 use Rattle.schedule_replay.proofs.Along.{Along, IsSound}
 use Rattle.trace_summary.specs.declared.counts.Counts.{Counts}
 use Rattle.trace_summary.specs.Counted.{no_counts}
 use Rattle.trace_text.specs.declared.ending.Ending.{Ending}
-use Rattle.replay_audit.proofs.Counting.{Reads, act_counted, both_read, ended, line_reads, one_commit, one_crash, one_step, one_win, plus, plus_end}
+use Rattle.replay_audit.proofs.Counting.{Reads, act_counted, both_read, committed_reads, ended, ended_none, line_reads, moved, one_commit, one_crash, one_step, one_win, plus, plus_end, won_reads}
 use Rattle.replay_audit.proofs.Counting.Reads.{NoLine}
+use Rattle.replay_audit.specs.ShownLines.{state_line, win_line}
 use Rattle.replay_audit.proofs.Entries.{entry_in, entries_of}
 use Rattle.replay_audit.proofs.Readable.{AllReadable, IsGivenAct, act_readable, durable_readable, ends_as, message_readable, own_readable, settled_readable}
 
@@ -56,11 +57,18 @@ committed_counts (Some state) = one_commit
 abbrev pub did_counts : ActShown → Counts
 did_counts x = plus (ended x.ending) (plus (won_counts x.won) (committed_counts x.committed))
 
-pub won_shows : (n : Id) (act : Act) (o : Outcome) → IsTrue (is_id n) → Reads (won_by (won_term act o) n) [] (won_counts (won_term act o))
+-- its lines `won` and `committed`
+abbrev pub won_lines : Id → Option ℕ → List (List ℕ)
+won_lines n o = map win_line (some_win n o)
+
+abbrev pub state_lines : Option ClusterState → List (List ℕ)
+state_lines o = map state_line (some_state o)
+
+pub won_shows : (n : Id) (act : Act) (o : Outcome) → IsTrue (is_id n) → Reads (won_by (won_term act o) n) [] (won_counts (won_term act o)) (won_lines n (won_term act o)) []
 won_shows n (TakeJoin j) o good = from (wins o)
   where
-    from : (b : Bool) → Reads (won_by (cond b (Some j.term) None) n) [] (won_counts (cond b (Some j.term) None))
-    from true = line_reads _ (codes "won" ∷ []) None one_win (shown_read.won n j.term good) (λ rest. refl)
+    from : (b : Bool) → Reads (won_by (cond b (Some j.term) None) n) [] (won_counts (cond b (Some j.term) None)) (won_lines n (cond b (Some j.term) None)) []
+    from true = won_reads _ (shown_read.won n j.term good)
     from false = NoLine
 won_shows n (Bootstrap config) o good = NoLine
 won_shows n (StartJoin candidate term) o good = NoLine
@@ -70,9 +78,9 @@ won_shows n (Response response) o good = NoLine
 won_shows n (Commit commit) o good = NoLine
 won_shows n (Open found) o good = NoLine
 
-pub state_shows : (o : Option ClusterState) → Reads (committed_text o) [] (committed_counts o)
+pub state_shows : (o : Option ClusterState) → Reads (committed_text o) [] (committed_counts o) [] (state_lines o)
 state_shows None = NoLine
-state_shows (Some state) = line_reads _ (codes "committed" ∷ []) None one_commit (shown_read.committed state) (λ rest. refl)
+state_shows (Some state) = committed_reads _ (shown_read.committed state)
 
 message_fits : (m : Message) → IsReadable (taking m) → FitsMessage m
 message_fits (JoinMessage join) h = (h.0, h.1)
@@ -80,9 +88,9 @@ message_fits (PublishMessage request) h = h.0
 message_fits (ResponseMessage response) h = (h.0, h.1)
 message_fits (CommitMessage commit) h = h.0
 
-sends_shows : (number : ℕ) (o : Outcome) → IsSmall number → ((m : Message) → Contains (sent_by o) m → IsReadable (taking m)) → Reads (sends_text (message_sent number o)) [] no_counts
+sends_shows : (number : ℕ) (o : Outcome) → IsSmall number → ((m : Message) → Contains (sent_by o) m → IsReadable (taking m)) → Reads (sends_text (message_sent number o)) [] no_counts [] []
 sends_shows number (Answered (Taken (Some m) w)) small can =
-    line_reads _ ((codes "m" ++ decimal number) ∷ []) None no_counts (shown_read.sent number m small (message_fits m (can m (0, omega arith, refl)))) (λ rest. refl)
+    line_reads _ ((codes "m" ++ decimal number) ∷ []) None no_counts (shown_read.sent number m small (message_fits m (can m (0, omega arith, refl)))) (λ rest. refl) refl refl
 sends_shows number (Answered (Taken None w)) small can = NoLine
 sends_shows number (Answered (Refused cause)) small can = NoLine
 sends_shows number (Answered Stopped) small can = NoLine
@@ -98,17 +106,20 @@ record CanBeShown (count : ℕ) (n : Id) (act : Act) (o : Outcome) : Type 0 wher
   sends : (m : Message) → Contains (sent_by o) m → IsReadable (taking m)
   few : IsSmall (count + 1)
 
-pub line_shows : (n : Id) (e : Ending) (act : Act) → IsTrue (is_id n) → is_opening act ≡ false → EndsAs act e → IsReadable act → Reads (act_line n e act) (Acted n e act ∷ []) (ended e)
-line_shows n e act good shut ends can = line_reads _ (codes "act" ∷ n ∷ ending_text e ∷ []) (Some (Acted n e act)) (ended e) (act_read n e act good shut ends can) (λ rest. act_counted n e rest)
+pub line_shows : (n : Id) (e : Ending) (act : Act) → IsTrue (is_id n) → is_opening act ≡ false → EndsAs act e → IsReadable act → Reads (act_line n e act) (Acted n e act ∷ []) (ended e) [] []
+line_shows n e act good shut ends can = line_reads _ (codes "act" ∷ n ∷ ending_text e ∷ []) (Some (Acted n e act)) (ended e) (act_read n e act good shut ends can) (λ rest. act_counted n e rest) (ended_none e).0 (ended_none e).1
 
-act_shows : (count : ℕ) (published : Option ClusterState) (n : Id) (act : Act) (o : Outcome) → CanBeShown count n act o → Reads (shown_text (act_shown count published n act o)) (Acted n (ending_of o) act ∷ []) (did_counts (act_shown count published n act o))
+act_shows : (count : ℕ) (published : Option ClusterState) (n : Id) (act : Act) (o : Outcome) → CanBeShown count n act o
+    → Reads (shown_text (act_shown count published n act o)) (Acted n (ending_of o) act ∷ []) (did_counts (act_shown count published n act o)) (won_lines n (won_term act o)) (state_lines (state_committed o published))
 act_shows count published n act o k =
     let committed = state_committed o published in
-    let last : Reads (committed_text committed ++ sends_text (message_sent (count + 1) o)) [] (committed_counts committed) =
-    subst (λ (c : Counts). Reads (committed_text committed ++ sends_text (message_sent (count + 1) o)) [] c) (plus_end (committed_counts committed))
-    (both_read (committed_text committed) (sends_text (message_sent (count + 1) o)) [] [] (committed_counts committed) no_counts (state_shows committed) (sends_shows (count + 1) o k.few k.sends)) in
-    both_read (act_line n (ending_of o) act) _ (Acted n (ending_of o) act ∷ []) [] (ended (ending_of o)) _ (line_shows n (ending_of o) act k.good k.shut k.ends k.can)
-    (both_read (won_by (won_term act o) n) _ [] [] (won_counts (won_term act o)) (committed_counts committed) (won_shows n act o k.good) last)
+    let won = won_term act o in
+    let last : Reads (committed_text committed ++ sends_text (message_sent (count + 1) o)) [] (committed_counts committed) [] (state_lines committed) =
+    moved _ _ [] _ (committed_counts committed) [] [] (state_lines committed ++ []) (state_lines committed) refl (plus_end (committed_counts committed)) refl (append-nil (state_lines committed))
+    (both_read (committed_text committed) (sends_text (message_sent (count + 1) o)) [] [] (committed_counts committed) no_counts [] [] (state_lines committed) [] (state_shows committed) (sends_shows (count + 1) o k.few k.sends)) in
+    moved _ _ (Acted n (ending_of o) act ∷ []) _ _ (won_lines n won ++ []) (won_lines n won) (state_lines committed) (state_lines committed) refl refl (append-nil (won_lines n won)) refl
+    (both_read (act_line n (ending_of o) act) _ (Acted n (ending_of o) act ∷ []) [] (ended (ending_of o)) _ [] (won_lines n won ++ []) [] (state_lines committed) (line_shows n (ending_of o) act k.good k.shut k.ends k.can)
+    (both_read (won_by won n) _ [] [] (won_counts won) (committed_counts committed) (won_lines n won) [] [] (state_lines committed) (won_shows n act o k.good) last))
 
 -- ---- what is given with a part
 
@@ -137,6 +148,15 @@ step_counts other = no_counts
 abbrev pub counts_of : List TracePart → Counts
 counts_of [] = no_counts
 counts_of (x ∷ xs) = plus (step_counts x) (counts_of xs)
+
+-- the lines `won` and `committed` of all parts
+abbrev pub won_lines_of : List TracePart → List (List ℕ)
+won_lines_of [] = []
+won_lines_of (x ∷ xs) = map win_line (win_in x) ++ won_lines_of xs
+
+abbrev pub state_lines_of : List TracePart → List (List ℕ)
+state_lines_of [] = []
+state_lines_of (x ∷ xs) = map state_line (state_in x) ++ state_lines_of xs
 
 -- ---- there are no more messages than bytes
 
@@ -195,23 +215,23 @@ module _ (initial : List Id) (set : IsListed initial) where
         few = few;
       }
 
-  did_shows : (h : History) (x : ActShown) → IsSound initial h (Did x) → IsTrue (is_id x.node) → IsGivenAct x.act → AllReadable h → IsSmall (length (sent h) + 1) → Reads (shown_text x) (entry_in (Did x)) (did_counts x)
+  did_shows : (h : History) (x : ActShown) → IsSound initial h (Did x) → IsTrue (is_id x.node) → IsGivenAct x.act → AllReadable h → IsSmall (length (sent h) + 1) → Reads (shown_text x) (entry_in (Did x)) (did_counts x) (won_lines x.node x.won) (state_lines x.committed)
   did_shows h x s good given r few =
-      subst (λ (y : ActShown). Reads (shown_text y) (entry_in (Did y)) (did_counts y)) (sym s.right.is_shown)
+      subst (λ (y : ActShown). Reads (shown_text y) (entry_in (Did y)) (did_counts y) (won_lines y.node y.won) (state_lines y.committed)) (sym s.right.is_shown)
       (act_shows (length (sent h)) (last_published (node_history h x.node)) x.node x.act s.right.outcome (can_be_shown h x s good given r few))
 
   -- a part that shows no act
-  pub quiet_shows : (level : Level) (nodes : List Id) (h : History) (x : TracePart) → is_act x ≡ false → IsIdSet nodes → IsSound initial h x → IsGiven level nodes x → AllReadable h → Reads (part_text x) (entry_in x) (step_counts x)
+  pub quiet_shows : (level : Level) (nodes : List Id) (h : History) (x : TracePart) → is_act x ≡ false → IsIdSet nodes → IsSound initial h x → IsGiven level nodes x → AllReadable h → Reads (part_text x) (entry_in x) (step_counts x) (map win_line (win_in x)) (map state_line (state_in x))
   quiet_shows level nodes h (Did x) q ids s g r = absurd cc
-  quiet_shows level nodes h (Opened n found) q ids s g r = line_reads _ (codes "record" ∷ []) (Some (recorded n found)) no_counts (record_read n found g (found_readable h n found s r)) (λ rest. refl)
-  quiet_shows level nodes h (Echo l) q ids s g r = line_reads _ (codes ">" ∷ []) None one_step (echo_read level nodes l ids g) (λ rest. refl)
-  quiet_shows level nodes h (WasDown n) q ids s g r = line_reads _ (codes "down" ∷ []) None no_counts (node_read.down n g) (λ rest. refl)
-  quiet_shows level nodes h (WasUp n) q ids s g r = line_reads _ (codes "up" ∷ []) None no_counts (node_read.up n g) (λ rest. refl)
-  quiet_shows level nodes h (WentDown n) q ids s g r = line_reads _ (codes "crashed" ∷ []) None one_crash (node_read.crashed n g) (λ rest. refl)
-  quiet_shows level nodes h (DiskFailed n) q ids s g r = line_reads _ (codes "disk" ∷ []) None no_counts (node_read.disk n g) (λ rest. refl)
-  quiet_shows level nodes h Unsent q ids s g r = line_reads _ (codes "unsent" ∷ []) None no_counts node_read.unsent (λ rest. refl)
+  quiet_shows level nodes h (Opened n found) q ids s g r = line_reads _ (codes "record" ∷ []) (Some (recorded n found)) no_counts (record_read n found g (found_readable h n found s r)) (λ rest. refl) refl refl
+  quiet_shows level nodes h (Echo l) q ids s g r = line_reads _ (codes ">" ∷ []) None one_step (echo_read level nodes l ids g) (λ rest. refl) refl refl
+  quiet_shows level nodes h (WasDown n) q ids s g r = line_reads _ (codes "down" ∷ []) None no_counts (node_read.down n g) (λ rest. refl) refl refl
+  quiet_shows level nodes h (WasUp n) q ids s g r = line_reads _ (codes "up" ∷ []) None no_counts (node_read.up n g) (λ rest. refl) refl refl
+  quiet_shows level nodes h (WentDown n) q ids s g r = line_reads _ (codes "crashed" ∷ []) None one_crash (node_read.crashed n g) (λ rest. refl) refl refl
+  quiet_shows level nodes h (DiskFailed n) q ids s g r = line_reads _ (codes "disk" ∷ []) None no_counts (node_read.disk n g) (λ rest. refl) refl refl
+  quiet_shows level nodes h Unsent q ids s g r = line_reads _ (codes "unsent" ∷ []) None no_counts node_read.unsent (λ rest. refl) refl refl
 
-  step_shows : (level : Level) (nodes : List Id) (h : History) (x : TracePart) → IsIdSet nodes → IsSound initial h x → IsGiven level nodes x → AllReadable h → IsSmall (length (sent h) + 1) → Reads (part_text x) (entry_in x) (step_counts x)
+  step_shows : (level : Level) (nodes : List Id) (h : History) (x : TracePart) → IsIdSet nodes → IsSound initial h x → IsGiven level nodes x → AllReadable h → IsSmall (length (sent h) + 1) → Reads (part_text x) (entry_in x) (step_counts x) (map win_line (win_in x)) (map state_line (state_in x))
   step_shows level nodes h (Did x) ids s g r few = did_shows h x s g.0 g.1 r few
   step_shows level nodes h (Opened n found) ids s g r few = quiet_shows level nodes h (Opened n found) refl ids s g r
   step_shows level nodes h (Echo l) ids s g r few = quiet_shows level nodes h (Echo l) refl ids s g r
@@ -224,8 +244,8 @@ module _ (initial : List Id) (set : IsListed initial) where
   -- ---- all parts
 
   pub steps_show : (level : Level) (nodes : List Id) (h : History) (xs : List TracePart) → IsIdSet nodes → Along (IsSound initial) h xs → AllByRecursion (IsGiven level nodes) xs → AllReadable h → length (sent h) + length (text_of xs) ≤ most_bytes
-      → Reads (text_of xs) (entries_of xs) (counts_of xs)
+      → Reads (text_of xs) (entries_of xs) (counts_of xs) (won_lines_of xs) (state_lines_of xs)
   steps_show level nodes h [] ids a g r few = NoLine
   steps_show level nodes h (x ∷ xs) ids a g r few =
-      both_read (part_text x) (text_of xs) (entry_in x) (entries_of xs) (step_counts x) (counts_of xs) (step_shows level nodes h x ids a.0 g.0 r (omega (arith, few)))
+      both_read (part_text x) (text_of xs) (entry_in x) (entries_of xs) (step_counts x) (counts_of xs) (map win_line (win_in x)) (won_lines_of xs) (map state_line (state_in x)) (state_lines_of xs) (step_shows level nodes h x ids a.0 g.0 r (omega (arith, few)))
       (steps_show level nodes (history_shown_by h x) xs ids a.1 g.1 (told_readable level nodes h x a.0 g.0 r) (omega (arith, few, sent_grows h x, length-append (part_text x) (text_of xs))))

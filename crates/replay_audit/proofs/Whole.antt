@@ -1,5 +1,5 @@
 -- The trace of a schedule of whole nodes is read as its own history, and found legal.
-use Rattle.std.proofs.Common.{◌≡◌, ℕ, ◌+◌, ◌≤◌, Bool, true, false, None, Some, Option, List, [], ◌∷◌, ◌++◌, length, map, sym, ap, ◌∙◌, subst, if◌then◌else◌, IsTrue, arith, length-append, codes, decimal, refl}
+use Rattle.std.proofs.Common.{◌≡◌, ℕ, ◌+◌, ◌≤◌, Bool, true, false, None, Some, Option, List, [], ◌∷◌, ◌++◌, length, map, sym, ap, ◌∙◌, subst, if◌then◌else◌, IsTrue, arith, length-append, append-nil, codes, decimal, refl}
 use Rattle.std.specs.List.{AllByRecursion, list_all}
 use Rattle.voting_config.specs.Ids.{Id, is_id, has, same, most_ids, IsIdSet}
 use Rattle.cluster_state.proofs.Fitting.{fits_ids}
@@ -26,7 +26,7 @@ use Rattle.line_laws.specs.Read.{header, IsSkipped}
 use Rattle.line_laws.proofs.Skips.{event_read, node_read}
 use Rattle.policy_model.specs.declared.settings.Settings.{Settings}
 use Rattle.policy_model.specs.declared.events.Event.{Event}
-use Rattle.policy_model.specs.declared.events.Event.TheVariants.{Start, Tick, Frame as FrameCame, Client as LineCame}
+use Rattle.policy_model.specs.declared.events.Event.TheVariants.{Start, Tick, Frame as FrameCame, Client as LineCame, Disconnected as PeerGone}
 use Rattle.policy_model.specs.declared.events.Deed.{Deed as NodeStep}
 use Rattle.policy_model.specs.declared.events.Deed.TheVariants as deed
 use Rattle.policy_model.specs.Events.{Item}
@@ -39,7 +39,7 @@ use Rattle.replay_node.specs.Clusters.{Cluster, after, event_course, frame_at, f
 use Rattle.schedule_replay.specs.ActShown.{state_committed, won_term}
 use Rattle.schedule_replay.specs.Levels.{trace_at}
 use Rattle.schedule_replay.specs.Parts.{ActShown, TracePart, Echo, Did, Opened, WasDown, WasUp, WentDown, DiskFailed, Unsent}
-use Rattle.schedule_replay.specs.HistoryShown.{history_shown_by}
+use Rattle.schedule_replay.specs.HistoryShown.{history_shown_by, state_in, win_in}
 use Rattle.schedule_replay.specs.TraceParts.{opening_part}
 use Rattle.schedule_replay.specs.ClusterParts.{NumberedFrame, ClusterPart, Shared, ModeChanged, Dropped, Framed, Replied, Misrouted, act_text, shared_text, cluster_part_text, cluster_text}
 use Rattle.schedule_replay.specs.ClusterShown.{core_of, frames_in, numbered_frames}
@@ -54,10 +54,11 @@ use Rattle.replay_audit.proofs.Core.{audits_as, read_as}
 use Rattle.replay_audit.proofs.Entries.{entry_in, entries_of, steps_entries}
 use Rattle.replay_audit.proofs.Named.{IsNamed, IsNamedAct, named_lines}
 use Rattle.replay_audit.proofs.Readable.{AllReadable, IsGivenAct, ends_as}
-use Rattle.replay_audit.proofs.Steps.{IsGiven, committed_counts, counts_of, did_counts, did_readable, line_shows, quiet_shows, state_shows, step_counts, told_readable, won_counts, won_shows}
+use Rattle.replay_audit.specs.ShownLines.{state_line, win_line}
+use Rattle.replay_audit.proofs.Steps.{IsGiven, committed_counts, counts_of, did_counts, did_readable, line_shows, quiet_shows, state_lines, state_lines_of, state_shows, step_counts, told_readable, won_counts, won_lines, won_lines_of, won_shows}
 use Rattle.trace_summary.specs.declared.counts.Counts.{Counts}
 use Rattle.trace_summary.specs.Counted.{no_counts}
-use Rattle.replay_audit.proofs.Counting.{Reads, both_read, counted, ended, line_reads, plus_assoc, plus_none, shows}
+use Rattle.replay_audit.proofs.Counting.{Reads, both_read, counted, ended, line_reads, moved, plus_assoc, plus_none, shows}
 use Rattle.replay_audit.proofs.Counting.Reads.{NoLine}
 
 -- ---- whose the parts are
@@ -145,6 +146,7 @@ module _ (nodes initial voting_only : List Id) (each : IsTrue (list_all is_id no
   own_line : (c : Cluster) (l : Line) → FitsNode nodes l → AreOwn nodes (line_parts nodes initial voting_only c l)
   own_line c (line.Tick n now word) f = own_event_if_up nodes (settings_of nodes initial voting_only n) (has_id n nodes each f.0) c (Tick now word)
   own_line c (line.Client n bytes) f = own_event_if_up nodes (settings_of nodes initial voting_only n) (has_id n nodes each f.0) c (LineCame 0 bytes)
+  own_line c (line.Disconnect n peer) f = own_event_if_up nodes (settings_of nodes initial voting_only n) (has_id n nodes each f.0) c (PeerGone peer)
   own_line c (line.Deliver n number) f = own_frame nodes (settings_of nodes initial voting_only n) (has_id n nodes each f.0) c (frame_at c number)
   own_line c (line.Crash n way) f = let good = has_id n nodes each f.0 in own_one nodes (c.world.down n) (Shared (WasDown n)) (Shared (WentDown n)) good good
   own_line c (line.Restart n) f = own_restart nodes (settings_of nodes initial voting_only n) (has_id n nodes each f) c
@@ -197,7 +199,7 @@ first_frame count f xs (g ∷ gs) e = (ap (λ l. number_of l) e, (gs, ap (λ l. 
 
 module _ (initial : List Id) (set : IsListed initial) (nodes : List Id) (ids : IsIdSet nodes) where
   -- an act without its message, which whole nodes show as frames
-  act_shows : (h : History) (x : ActShown) → IsSound initial h (Did x) → IsTrue (is_id x.node) → IsGivenAct x.act → AllReadable h → Reads (act_text x) (entry_in (Did x)) (did_counts x)
+  act_shows : (h : History) (x : ActShown) → IsSound initial h (Did x) → IsTrue (is_id x.node) → IsGivenAct x.act → AllReadable h → Reads (act_text x) (entry_in (Did x)) (did_counts x) (won_lines x.node x.won) (state_lines x.committed)
   act_shows h x s good given r =
       let o : Outcome = s.right.outcome in
       let can = did_readable initial set h x s given r in
@@ -206,13 +208,13 @@ module _ (initial : List Id) (set : IsListed initial) (nodes : List Id) (ids : I
       let committed : Option ClusterState = state_committed o (last_published (node_history h x.node)) in
       let won : Option ℕ = won_term x.act o in
       let e = ending_of o in
-      subst (λ (y : ActShown). Reads (act_text y) (entry_in (Did y)) (did_counts y)) (sym s.right.is_shown)
-      (subst (λ (c : Counts). Reads ((act_line x.node e x.act ++ won_by won x.node) ++ committed_text committed) (Acted x.node e x.act ∷ []) c) (plus_assoc (ended e) (won_counts won) (committed_counts committed))
-      (both_read _ (committed_text committed) (Acted x.node e x.act ∷ []) [] _ (committed_counts committed)
-      (both_read (act_line x.node e x.act) (won_by won x.node) (Acted x.node e x.act ∷ []) [] (ended e) (won_counts won) (line_shows x.node e x.act good s.right.shut ends can) (won_shows x.node x.act o good))
+      subst (λ (y : ActShown). Reads (act_text y) (entry_in (Did y)) (did_counts y) (won_lines y.node y.won) (state_lines y.committed)) (sym s.right.is_shown)
+      (moved _ _ (Acted x.node e x.act ∷ []) _ _ (won_lines x.node won ++ []) (won_lines x.node won) (state_lines committed) (state_lines committed) refl (plus_assoc (ended e) (won_counts won) (committed_counts committed)) (append-nil (won_lines x.node won)) refl
+      (both_read (act_line x.node e x.act ++ won_by won x.node) (committed_text committed) (Acted x.node e x.act ∷ []) [] _ (committed_counts committed) (won_lines x.node won) [] [] (state_lines committed)
+      (both_read (act_line x.node e x.act) (won_by won x.node) (Acted x.node e x.act ∷ []) [] (ended e) (won_counts won) [] (won_lines x.node won) [] [] (line_shows x.node e x.act good s.right.shut ends can) (won_shows x.node x.act o good))
       (state_shows committed)))
 
-  shared_shows : (h : History) (x : TracePart) → IsSound initial h x → IsGiven Node nodes x → AllReadable h → Reads (shared_text x) (entry_in x) (step_counts x)
+  shared_shows : (h : History) (x : TracePart) → IsSound initial h x → IsGiven Node nodes x → AllReadable h → Reads (shared_text x) (entry_in x) (step_counts x) (map win_line (win_in x)) (map state_line (state_in x))
   shared_shows h (Did x) s g r = act_shows h x s g.0 g.1 r
   shared_shows h (Opened n found) s g r = quiet_shows initial set Node nodes h (Opened n found) refl ids s g r
   shared_shows h (Echo l) s g r = quiet_shows initial set Node nodes h (Echo l) refl ids s g r
@@ -223,18 +225,18 @@ module _ (initial : List Id) (set : IsListed initial) (nodes : List Id) (ids : I
   shared_shows h Unsent s g r = quiet_shows initial set Node nodes h Unsent refl ids s g r
 
   -- a line that tells nothing of the history, before others
-  behind : (text : List ℕ) (verb : List ℕ) (xs : List ClusterPart) → IsSkipped verb text → ((rest : List (List ℕ)) → counted (verb ∷ rest) ≡ no_counts) → Reads (cluster_text xs) (entries_of (core_of xs)) (counts_of (core_of xs))
-      → Reads (text ++ cluster_text xs) (entries_of (core_of xs)) (counts_of (core_of xs))
+  behind : (text : List ℕ) (verb : List ℕ) (xs : List ClusterPart) → IsSkipped verb text → ((rest : List (List ℕ)) → counted (verb ∷ rest) ≡ no_counts) → Reads (cluster_text xs) (entries_of (core_of xs)) (counts_of (core_of xs)) (won_lines_of (core_of xs)) (state_lines_of (core_of xs))
+      → Reads (text ++ cluster_text xs) (entries_of (core_of xs)) (counts_of (core_of xs)) (won_lines_of (core_of xs)) (state_lines_of (core_of xs))
   behind text verb xs skip none rest =
-      subst (λ (c : Counts). Reads (text ++ cluster_text xs) (entries_of (core_of xs)) c) (plus_none (counts_of (core_of xs)))
-      (both_read text (cluster_text xs) [] (entries_of (core_of xs)) no_counts (counts_of (core_of xs)) (line_reads text (verb ∷ []) None no_counts skip none) rest)
+      subst (λ (c : Counts). Reads (text ++ cluster_text xs) (entries_of (core_of xs)) c (won_lines_of (core_of xs)) (state_lines_of (core_of xs))) (plus_none (counts_of (core_of xs)))
+      (both_read text (cluster_text xs) [] (entries_of (core_of xs)) no_counts (counts_of (core_of xs)) [] (won_lines_of (core_of xs)) [] (state_lines_of (core_of xs)) (line_reads text (verb ∷ []) None no_counts skip none refl refl) rest)
 
   steps_show : (h : History) (count : ℕ) (fs : List Frame) (xs : List ClusterPart) → frames_in xs ≡ numbered_frames count fs → Along (IsSound initial) h (core_of xs) → AreOwn nodes xs → AllByRecursion IsNamed xs → AllReadable h → count + length (cluster_text xs) ≤ most_bytes
-      → Reads (cluster_text xs) (entries_of (core_of xs)) (counts_of (core_of xs))
+      → Reads (cluster_text xs) (entries_of (core_of xs)) (counts_of (core_of xs)) (won_lines_of (core_of xs)) (state_lines_of (core_of xs))
   steps_show h count fs [] e a o n r few = NoLine
   steps_show h count fs (Shared x ∷ xs) e a o n r few =
       let g = given nodes x o.0 n.0 in
-      both_read (shared_text x) (cluster_text xs) (entry_in x) (entries_of (core_of xs)) (step_counts x) (counts_of (core_of xs)) (shared_shows h x a.0 g r)
+      both_read (shared_text x) (cluster_text xs) (entry_in x) (entries_of (core_of xs)) (step_counts x) (counts_of (core_of xs)) (map win_line (win_in x)) (won_lines_of (core_of xs)) (map state_line (state_in x)) (state_lines_of (core_of xs)) (shared_shows h x a.0 g r)
       (steps_show (history_shown_by h x) count fs xs e a.1 o.1 n.1 (told_readable initial set Node nodes h x a.0 g r) (omega (arith, few, length-append (shared_text x) (cluster_text xs))))
   steps_show h count fs (ModeChanged m mode term ∷ xs) e a o n r few =
       behind _ (codes "mode") xs (event_read.mode m mode term o.0 n.0) (λ rest. refl) (steps_show h count fs xs e a o.1 n.1 r (omega (arith, few, length-append (cluster_part_text (ModeChanged m mode term)) (cluster_text xs))))
@@ -255,6 +257,7 @@ module _ (initial : List Id) (set : IsListed initial) (nodes : List Id) (ids : I
 line_node : (nodes : List Id) (l : Line) → FitsNode nodes l → has (node_of l) nodes ≡ true
 line_node nodes (line.Tick n now word) f = f.0
 line_node nodes (line.Client n bytes) f = f.0
+line_node nodes (line.Disconnect n peer) f = f.0
 line_node nodes (line.Deliver n number) f = f.0
 line_node nodes (line.Crash n way) f = f.0
 line_node nodes (line.Restart n) f = f
@@ -277,20 +280,20 @@ whole_sound s w =
     sound_along s.initial NoEntries (core_of (cluster_parts s)) p.right (subst (λ (h : History). IsLegal s.initial h) (sym p.history) (cluster_replay_is_legal s (formed s w)))
 
 -- the trace by its parts
-pub trace_reads : (s : Schedule) → CanBeAuditedWhole s → Reads (trace_at Node s) (entries_of (core_of (cluster_parts s))) (counts_of (core_of (cluster_parts s)))
+pub trace_reads : (s : Schedule) → CanBeAuditedWhole s → Reads (trace_at Node s) (entries_of (core_of (cluster_parts s))) (counts_of (core_of (cluster_parts s))) (won_lines_of (core_of (cluster_parts s))) (state_lines_of (core_of (cluster_parts s)))
 trace_reads s w =
     let p = lines_piece s.nodes s.initial s.voting_only (fresh_cluster s.nodes s.initial s.voting_only) s.lines in
     let xs = cluster_parts s in
     let listed = fits_ids most_ids s.initial w.can.initial w.can.initial.fits in
     let short : 0 + length (cluster_text xs) ≤ most_bytes = omega (arith, w.can.short, length-append (header s.initial) (trace_at Node s), ap (λ (t : List ℕ). length t) p.text_is) in
-    subst (λ (t : List ℕ). Reads t (entries_of (core_of xs)) (counts_of (core_of xs))) (sym p.text_is)
+    subst (λ (t : List ℕ). Reads t (entries_of (core_of xs)) (counts_of (core_of xs)) (won_lines_of (core_of xs)) (state_lines_of (core_of xs))) (sym p.text_is)
     (steps_show s.initial listed s.nodes w.can.nodes NoEntries 0 (replayed s).frames xs p.frames (whole_sound s w) (own_lines s.nodes s.initial s.voting_only w.can.nodes.each (fresh_cluster s.nodes s.initial s.voting_only) s.lines w.fit)
     (named_lines s.nodes s.initial s.voting_only w.can.nodes w.can.initial (fresh_cluster s.nodes s.initial s.voting_only) s.lines (lines_node s.nodes s.lines w.fit) (fresh_sound s.nodes s.initial s.voting_only w.can.nodes w.can.initial)) tt short)
 
 pub whole_read : LawWholeReplayIsRead
 whole_read s w =
     let p = lines_piece s.nodes s.initial s.voting_only (fresh_cluster s.nodes s.initial s.voting_only) s.lines in
-    read_as s.initial (trace_at Node s) (entries_of (core_of (cluster_parts s))) (replayed_history s) w.can.initial w.can.some_initial w.can.short (shows _ _ _ (trace_reads s w))
+    read_as s.initial (trace_at Node s) (entries_of (core_of (cluster_parts s))) (replayed_history s) w.can.initial w.can.some_initial w.can.short (shows _ _ _ _ _ (trace_reads s w))
     (steps_entries s.initial NoEntries (core_of (cluster_parts s)) (whole_sound s w) ∙ p.history)
 
 pub whole_audited : LawWholeReplayIsAudited

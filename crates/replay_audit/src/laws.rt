@@ -1,6 +1,7 @@
 //! What an audit finds in what a replay writes.
 
 ghost use Rattle.replay_audit.specs.Audits.{LawReplayIsAudited, LawReplayIsRead, LawWholeReplayIsAudited, LawWholeReplayIsRead};
+ghost use Rattle.replay_audit.specs.ShownLines.{LawLines, LawWholeLines};
 ghost use Rattle.replay_audit.specs.Summed.{LawSummary, LawWholeSummary};
 
 /// The trace of each schedule of level core, after a line `initial` with its configuration, is a recorded trace, whose entries make the
@@ -26,7 +27,8 @@ pub fn law_whole_replay_is_audited()
 {}
 
 /// The summary of the trace of a schedule of level core, which counts its lines, counts what the history has: the lines of the schedule,
-/// the acts, those that were refused, the wins, and the commits that were sent.
+/// the acts, those that were refused, the wins, the commits that were sent,
+/// and the crashes.
 pub fn law_summary()
     ensures { LawSummary }
 {}
@@ -34,4 +36,16 @@ pub fn law_summary()
 /// The same of each schedule of whole nodes.
 pub fn law_whole_summary()
     ensures { LawWholeSummary }
+{}
+
+/// Of the bytes of the trace of a schedule of level core: the lines that begin with the word `won` are those of the wins of its history, in
+/// order, and the lines that begin with the word `committed` are those of the states that are committed in it. Two lines `won` of one term
+/// are the same line, and so are two lines `committed` of one version.
+pub fn law_lines()
+    ensures { LawLines }
+{}
+
+/// The same of each schedule of whole nodes.
+pub fn law_whole_lines()
+    ensures { LawWholeLines }
 {}

@@ -4,6 +4,6 @@
 mod laws;
 
 pub use laws::{
-    law_replay_is_audited, law_replay_is_read, law_summary, law_whole_replay_is_audited,
-    law_whole_replay_is_read, law_whole_summary,
+    law_lines, law_replay_is_audited, law_replay_is_read, law_summary, law_whole_lines,
+    law_whole_replay_is_audited, law_whole_replay_is_read, law_whole_summary,
 };
