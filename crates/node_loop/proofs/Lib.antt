@@ -11,3 +11,4 @@ pub mod Stepping
 pub mod Holding
 pub mod Running
 pub mod Killing
+pub mod NextRuns

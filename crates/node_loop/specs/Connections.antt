@@ -4,9 +4,9 @@ use Rattle.wire_frames.specs.declared.fault.FrameError.{FrameError}
 use Rattle.wire_frames.specs.declared.frame.Frame.{Frame}
 use Rattle.wire_frames.specs.Streams.{Ending, Rest, Fault, stream, fault_in, read_up}
 use Rattle.client_lines.specs.Lines.{lines_of, rest_of}
-use Rattle.policy_model.specs.declared.events.Event.TheVariants.{Tick as TickCame, Frame as FrameCame, Client as LineCame}
+use Rattle.policy_model.specs.declared.events.Event.TheVariants.{Tick as TickCame, Frame as FrameCame, Client as LineCame, Disconnected as PeerGone}
 use Rattle.zen_link.specs.declared.link.Input.{Input}
-use Rattle.zen_link.specs.declared.link.Input.TheVariants.{Bytes, Closed, Tick, Stop}
+use Rattle.zen_link.specs.declared.link.Input.TheVariants.{Bytes, Closed, Disconnected, Tick, Stop}
 use Rattle.node_loop.specs.declared.connection.Connection.{Connection}
 use Rattle.node_loop.specs.declared.connection.Connection.TheVariants.{Fresh, Frames, Lines}
 use Rattle.node_loop.specs.Intakes.{Intake, Read, Unread, Refused, Intakes, NoIntakes, Then, inputs_in}
@@ -44,6 +44,7 @@ module _ (conn : ℕ) where
   abbrev pub since_input : Input → List ℕ → List ℕ
   since_input (Bytes c bytes) before = if c == conn then unless_bad (before ++ bytes) else before
   since_input (Closed c) before = if c == conn then [] else before
+  since_input (Disconnected peer) before = before
   since_input (Tick now word) before = before
   since_input Stop before = before
 
@@ -75,6 +76,7 @@ module _ (conn : ℕ) where
 abbrev pub made_by_input : Intakes → Input → List Happening
 made_by_input before (Bytes conn bytes) = brought conn (bytes_of conn before) bytes
 made_by_input before (Closed conn) = Ends conn ∷ []
+made_by_input before (Disconnected peer) = Comes (PeerGone peer) ∷ []
 made_by_input before (Tick now word) = Comes (TickCame now word) ∷ []
 made_by_input before Stop = []
 

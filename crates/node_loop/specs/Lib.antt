@@ -14,3 +14,4 @@ pub mod Limits
 pub mod Running
 pub mod Nodes
 pub mod Killed
+pub mod NextRuns

@@ -15,7 +15,7 @@ use Rattle.event_text.specs.Frames.{frame_line, message_text}
 use Rattle.event_text.specs.Published.{published_after}
 use Rattle.event_text.specs.Deeds.{deeds_text}
 use Rattle.policy_model.specs.declared.events.Event.{Event}
-use Rattle.policy_model.specs.declared.events.Event.TheVariants.{Start, Tick, Frame as FrameCame, Client as LineCame}
+use Rattle.policy_model.specs.declared.events.Event.TheVariants.{Start, Tick, Frame as FrameCame, Client as LineCame, Disconnected as PeerGone}
 use Rattle.policy_model.specs.declared.events.MemberDrop.{MemberDrop}
 use Rattle.policy_model.specs.declared.events.Deed.{Deed}
 use Rattle.policy_model.specs.declared.settings.Settings.{Settings}
@@ -62,6 +62,7 @@ event_line Start = codes "> start\n"
 event_line (Tick now word) = codes "> tick " ++ decimal now ++ codes " " ++ decimal word ++ codes "\n"
 event_line (FrameCame frame) = codes "> frame " ++ frame.from ++ codes " " ++ message_text frame.message ++ codes "\n"
 event_line (LineCame conn line) = codes "> client " ++ line ++ codes "\n"
+event_line (PeerGone peer) = codes "> disconnect " ++ peer ++ codes "\n"
 
 -- what is wrong with the bytes of a frame
 abbrev pub fault_text : FrameError → List ℕ

@@ -11,7 +11,9 @@ mod reporter;
 
 pub use connection::{Came, Connection};
 pub use event_node::{Done, EventNode, NotDone};
-pub use laws::{law_crash_is_kill, law_end_is_kept, law_moment_is_cut};
+pub use laws::{
+    law_crash_is_kill, law_end_is_kept, law_moment_is_cut, law_next_after_end, law_next_after_kill,
+};
 pub use lines::LastSent;
 pub use node::{End, Node, law_holds_little};
 pub use opening::JournalNode;

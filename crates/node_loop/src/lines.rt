@@ -1,7 +1,7 @@
 //! The lines that a node writes of what came to it, and of what it did.
 ghost use Rattle.std.specs.Prelude.{◌≡◌, ◌++◌, OnOk};
 ghost use Rattle.wire_frames.specs.declared.fault.FrameError.TheVariants.{UnknownKind, Field};
-ghost use Rattle.policy_model.specs.declared.events.Event.TheVariants.{Tick as TickCame, Frame as FrameCame, Client as LineCame};
+ghost use Rattle.policy_model.specs.declared.events.Event.TheVariants.{Tick as TickCame, Frame as FrameCame, Client as LineCame, Disconnected as PeerGone};
 ghost use Rattle.node_loop.specs.Texts.{event_line, event_lines, fault_text, next_number, numbered, number_after, bad_line, gone_line};
 ghost use Rattle.event_text.specs.Published.{published_after};
 
@@ -51,6 +51,14 @@ fn write_client(text: &mut Text, line: &[u8]) -> Result<(), AllocError>
     text.word("\n")
 }
 
+fn write_disconnected(text: &mut Text, peer: NodeId) -> Result<(), AllocError>
+    ensures { OnOk result (text.new ≡ text.old ++ event_line (PeerGone peer)) }
+{
+    text.word("> disconnect ")?;
+    text.id(peer)?;
+    text.word("\n")
+}
+
 /// Writes what came to the node.
 pub fn write_event_line(text: &mut Text, alloc: Global, event: &Event) -> Result<(), AllocError>
     ensures { OnOk result (text.new ≡ text.old ++ event_line event.now) }
@@ -60,6 +68,7 @@ pub fn write_event_line(text: &mut Text, alloc: Global, event: &Event) -> Result
         Event::Tick { now, word } => write_tick(text, *now, *word),
         Event::Frame(frame) => write_frame(text, alloc, frame.frame()),
         Event::Client { conn: _, line } => write_client(text, line.as_bytes()),
+        Event::Disconnected { peer } => write_disconnected(text, *peer),
     }
 }
 

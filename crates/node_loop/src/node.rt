@@ -427,6 +427,9 @@ fn take_input<S: EventNode, L: Link<Out = S::Sealed>, O: Sink>(
             &bytes,
         ),
         Input::Closed { conn } => take_closed(inner, connections, alloc, link, out, conn),
+        Input::Disconnected { peer } => {
+            do_event(inner, alloc, link, out, Event::Disconnected { peer })
+        }
         Input::Tick { now, word } => do_event(inner, alloc, link, out, Event::Tick { now, word }),
         Input::Stop => Some(End::Stop),
     }

@@ -5,15 +5,19 @@ ghost use Rattle.std.specs.Prelude.{◌<◌, IfOk, IsTrue};
 ghost use Rattle.std.specs.List.{list_all};
 ghost use Rattle.zen_link.specs.Told.{has_low_conn, most_connections};
 
-use self::Comes::{Draws, Gone, Letters, OnFour, OnThree, Tick};
+use self::Comes::{Draws, Gone, Letters, Lost, OnFour, OnThree, Tick};
 use crate::settings::{ALONE, Names, OF_TWO, settings_of};
 use bytes::Bytes;
 use coordinator::Sealed;
-use node_loop::{End, Node, law_crash_is_kill, law_end_is_kept, law_moment_is_cut};
+use node_loop::{
+    End, Node, law_crash_is_kill, law_end_is_kept, law_moment_is_cut, law_next_after_end,
+    law_next_after_kill,
+};
 use policy_model::Settings;
 use state_journal::OpenError;
 use std::alloc::{AllocError, Global};
 use std::test::Fail;
+use voting_config::NodeId;
 use zen_disk::{Disks, MemDisks, Side};
 use zen_link::{Input, MemLink, MemSink, Traffic};
 
@@ -25,6 +29,8 @@ fn the_laws_can_be_called() {
     law_crash_is_kill();
     law_moment_is_cut::<MemDisks>();
     law_end_is_kept();
+    law_next_after_end();
+    law_next_after_kill();
 }
 
 // ---- what comes
@@ -44,6 +50,8 @@ enum Comes {
     Letters(usize),
     // The end of connection 3.
     Gone,
+    // The loss of peer b.
+    Lost,
 }
 
 fn bytes(conn: u64, text: &'static [u8]) -> Input
@@ -77,6 +85,9 @@ fn input(alloc: Global, comes: Comes) -> Result<Input, AllocError>
         OnFour(text) => Ok(bytes(4, text)),
         Letters(count) => long_line(alloc, count),
         Gone => Ok(Input::Closed { conn: 3 }),
+        Lost => Ok(Input::Disconnected {
+            peer: NodeId::parse("b").unwrap_or_default(),
+        }),
     }
 }
 
@@ -343,6 +354,35 @@ const RUNS: &[Run] = &[
         script: &[OnThree(b"\0\0\0"), Gone],
         lines: &["record a 0 0/0 _ _", "> start", "> gone 3"],
         traffic: b"gtt",
+        ..SERVED
+    },
+    Run {
+        name: "the loss of a peer that never answered changes nothing",
+        script: &[Lost],
+        lines: &["record a 0 0/0 _ _", "> start", "> disconnect b"],
+        traffic: b"gtg",
+        ..SERVED
+    },
+    Run {
+        name: "a candidate forgets what a lost peer answered and asks it at once",
+        names: OF_TWO,
+        script: &[
+            Draws(0, 7),
+            OnThree(b"\0\0\0\x13\x08\x01b\x01a\0\0\0\0\0\0\0\0\0\x02\x01a\x01b"),
+            Lost,
+            Draws(1, 7),
+        ],
+        lines: &[
+            "record a 0 0/0 _ _",
+            "> start",
+            "> tick 0 7",
+            "m1 a->b peersask b",
+            "> frame b peersanswer _ 0 a,b",
+            "> disconnect b",
+            "> tick 1 7",
+            "m2 a->b peersask b",
+        ],
+        traffic: b"gtgtgtgtg",
         ..SERVED
     },
     Run {

@@ -1,5 +1,5 @@
 use Rattle.std.proofs.Common.{refl, Some}
-use Rattle.zen_link.specs.declared.link.Input.TheVariants.{Tick, Stop}
+use Rattle.zen_link.specs.declared.link.Input.TheVariants.{Disconnected, Tick, Stop}
 use Rattle.node_loop.specs.declared.node.End.TheVariants as ends
 use Rattle.node_loop.specs.Intakes.{Read}
 use Rattle.node_loop.proofs.Telling.{rests}
@@ -10,6 +10,14 @@ use Rattle.node_loop.proofs.node.take_input.Goals as goal
 pub returns-in-Tick-clause-takes : goal.returns-in-Tick-clause-takes
 returns-in-Tick-clause-takes g c s life intakes stands up reads = rw c.in-Tick.is (record {
   intake = Read (Tick c.in-Tick.now c.in-Tick.word);
+  is = refl;
+  tells = c.do_event-in-Tick.ensures.says refl s life stands up;
+  reads = λ conn low. reads conn low;
+})
+
+pub returns-in-Disconnected-clause-takes : goal.returns-in-Disconnected-clause-takes
+returns-in-Disconnected-clause-takes g c s life intakes stands up reads = rw c.in-Disconnected.is (record {
+  intake = Read (Disconnected c.in-Disconnected.peer);
   is = refl;
   tells = c.do_event.ensures.says refl s life stands up;
   reads = λ conn low. reads conn low;
