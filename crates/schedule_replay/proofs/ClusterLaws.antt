@@ -14,7 +14,7 @@ use Rattle.schedule_replay.proofs.Along.{numbers}
 use Rattle.schedule_replay.proofs.Showing.{sound_shows, shown_agrees}
 use Rattle.schedule_replay.proofs.Sound.{sound_along}
 use Rattle.schedule_replay.proofs.ClusterPieces.{Piece}
-use Rattle.schedule_replay.proofs.ClusterReplies.{all_replies}
+use Rattle.schedule_replay.proofs.ClusterReplies.{all_modes, all_drops, all_replies}
 use Rattle.schedule_replay.proofs.ClusterTelling.{lines_piece, go_on}
 
 whole : (s : Schedule) → Piece NoEntries [] (replayed_history s) (replayed s).frames (trace s) s.lines (cluster_parts s)
@@ -29,6 +29,8 @@ tells s =
       history = p.history;
       messages = numbers NoEntries (core_of (cluster_parts s)) p.right ∙ ap (λ (h : History). numbered 0 (sent h)) p.history;
       frames = p.frames;
+      modes = λ n. all_modes n s.nodes s.initial s.voting_only s.lines;
+      drops = λ n. all_drops n s.nodes s.initial s.voting_only s.lines;
       replies = λ n. all_replies n s.nodes s.initial s.voting_only s.lines;
     }
 

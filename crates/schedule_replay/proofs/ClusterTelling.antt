@@ -12,7 +12,7 @@ use Rattle.trace_text.specs.Trace.{crashed_line, down_line, up_line}
 use Rattle.event_text.specs.Events.{drop_line, reply_line}
 use Rattle.policy_model.specs.declared.settings.Settings.{Settings}
 use Rattle.policy_model.specs.declared.events.Event.{Event}
-use Rattle.policy_model.specs.declared.events.Event.TheVariants.{Start, Tick, Frame as FrameCame, Client as LineCame}
+use Rattle.policy_model.specs.declared.events.Event.TheVariants.{Start, Tick, Frame as FrameCame, Client as LineCame, Disconnected as PeerGone}
 use Rattle.policy_model.specs.declared.events.MemberDrop.{MemberDrop}
 use Rattle.policy_model.specs.Events.{Item, Begins, And}
 use Rattle.policy_model.specs.Entries.{log_of, deeds_of, drops_of, frames_of, replies_of}
@@ -126,6 +126,7 @@ module _ (nodes initial voting_only : List Id) where
   line_piece : (c : Cluster) (l : Line) → PieceOf c (after nodes initial voting_only c l) (line_shown nodes initial voting_only c l) [] (line_parts nodes initial voting_only c l)
   line_piece c (line.Tick n now word) = if_up (settings_of nodes initial voting_only n) c (Tick now word)
   line_piece c (line.Client n bytes) = if_up (settings_of nodes initial voting_only n) c (LineCame 0 bytes)
+  line_piece c (line.Disconnect n peer) = if_up (settings_of nodes initial voting_only n) c (PeerGone peer)
   line_piece c (line.Deliver n number) = frame_piece (settings_of nodes initial voting_only n) c (frame_at c number)
   line_piece c (line.Crash n way) = crash_piece c n (with_node c.world n c.world.history (after_crash way (node_world c.world n))) refl (c.world.down n)
   line_piece c (line.Restart n) = restart_piece (settings_of nodes initial voting_only n) c

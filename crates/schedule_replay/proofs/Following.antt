@@ -128,6 +128,7 @@ line_shows initial w (line.Fuse n count way) down k = refl
 line_shows initial w (line.Fail n count) down k = refl
 line_shows initial w (line.Tick n now word) down k = refl
 line_shows initial w (line.Client n bytes) down k = refl
+line_shows initial w (line.Disconnect n peer) down k = refl
 
 line_knows : (initial : List Id) (w : World) (l : Line) (down : Id → Bool) → Knows down w → Knows (down_from down (line_parts initial w l)) (after initial w l)
 line_knows initial w (line.Boot n) down k = act_knows w n (Bootstrap initial) down k
@@ -140,6 +141,7 @@ line_knows initial w (line.Fuse n count way) down k = order_knows w n (Stop coun
 line_knows initial w (line.Fail n count) down k = order_knows w n (Fault count) down k
 line_knows initial w (line.Tick n now word) down k = k
 line_knows initial w (line.Client n bytes) down k = k
+line_knows initial w (line.Disconnect n peer) down k = k
 
 pub lines_show : (initial : List Id) (w : World) (ls : List Line) (down : Id → Bool) → Knows down w → ShowsLines initial w.history down ls (parts_from initial w ls)
 lines_show initial w [] down k = refl

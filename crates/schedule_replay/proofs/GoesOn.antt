@@ -113,6 +113,7 @@ line_goes initial w (line.Fuse n count way) us free of = absurd of
 line_goes initial w (line.Fail n count) us free of = absurd of
 line_goes initial w (line.Tick n now word) us free of = absurd of
 line_goes initial w (line.Client n bytes) us free of = absurd of
+line_goes initial w (line.Disconnect n peer) us free of = absurd of
 
 lines_go : (initial : List Id) (w : World) (ls : List Line) (us : List Id) → ((u : Id) → has u us ≡ true → IsReady w u) → AllByRecursion (IsOf us) ls → (replayed_from initial w ls).history ≡ lines_done value_with w.history ls
 lines_go initial w [] us free of = refl

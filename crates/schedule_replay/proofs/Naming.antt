@@ -98,6 +98,7 @@ line_sends nodes initial w (line.Fuse n count way) f = inl refl
 line_sends nodes initial w (line.Fail n count) f = inl refl
 line_sends nodes initial w (line.Tick n now word) f = inl refl
 line_sends nodes initial w (line.Client n bytes) f = inl refl
+line_sends nodes initial w (line.Disconnect n peer) f = inl refl
 
 -- ---- the configurations
 

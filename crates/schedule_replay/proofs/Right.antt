@@ -68,6 +68,7 @@ line_one initial w (line.Fuse n count way) = NoStep
 line_one initial w (line.Fail n count) = NoStep
 line_one initial w (line.Tick n now word) = NoStep
 line_one initial w (line.Client n bytes) = NoStep
+line_one initial w (line.Disconnect n peer) = NoStep
 
 right_one : (h : History) (xs : List TracePart) → IsOne h xs → Along IsRight h xs
 right_one h _ NoStep = tt

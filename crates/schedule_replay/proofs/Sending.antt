@@ -66,6 +66,7 @@ line_sends initial w (line.Fuse n count way) = omega arith
 line_sends initial w (line.Fail n count) = omega arith
 line_sends initial w (line.Tick n now word) = omega arith
 line_sends initial w (line.Client n bytes) = omega arith
+line_sends initial w (line.Disconnect n peer) = omega arith
 
 pub lines_send : (initial : List Id) (w : World) (ls : List Line) → count_in (replayed_from initial w ls) ≤ count_in w + length ls
 lines_send initial w [] = omega arith

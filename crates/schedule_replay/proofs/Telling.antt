@@ -72,6 +72,7 @@ line_told initial w (line.Fuse n count way) = refl
 line_told initial w (line.Fail n count) = refl
 line_told initial w (line.Tick n now word) = refl
 line_told initial w (line.Client n bytes) = refl
+line_told initial w (line.Disconnect n peer) = refl
 
 -- ---- the history
 
@@ -130,6 +131,7 @@ line_text_is initial w (line.Fuse n count way) = refl
 line_text_is initial w (line.Fail n count) = refl
 line_text_is initial w (line.Tick n now word) = refl
 line_text_is initial w (line.Client n bytes) = refl
+line_text_is initial w (line.Disconnect n peer) = refl
 
 pub steps_text : (initial : List Id) (w : World) (ls : List Line) → trace_from initial w ls ≡ text_of (parts_from initial w ls)
 steps_text initial w [] = refl
@@ -165,6 +167,7 @@ no_line initial w (line.Fuse n count way) = refl
 no_line initial w (line.Fail n count) = refl
 no_line initial w (line.Tick n now word) = refl
 no_line initial w (line.Client n bytes) = refl
+no_line initial w (line.Disconnect n peer) = refl
 
 pub steps_lines : (initial : List Id) (w : World) (ls : List Line) → lines_of (parts_from initial w ls) ≡ ls
 steps_lines initial w [] = refl

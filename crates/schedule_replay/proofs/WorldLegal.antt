@@ -41,6 +41,7 @@ line_sound nodes initial w (line.Fuse n count way) named fits f s = armed initia
 line_sound nodes initial w (line.Fail n count) named fits f s = armed initial w n (Fault count) s
 line_sound nodes initial w (line.Tick n now word) named fits f s = s
 line_sound nodes initial w (line.Client n bytes) named fits f s = s
+line_sound nodes initial w (line.Disconnect n peer) named fits f s = s
 
 lines_sound : (nodes initial : List Id) (w : World) (ls : List Line) → initial ≢ [] → (ids most_ids).Fits initial → AllByRecursion (FitsLine Core nodes) ls → SoundWorld initial w → SoundWorld initial (replayed_from initial w ls)
 lines_sound nodes initial w [] named fits f s = s

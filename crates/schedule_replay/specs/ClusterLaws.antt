@@ -9,17 +9,19 @@ use Rattle.schedule_replay.specs.Showing.{Shows, Agrees}
 use Rattle.schedule_replay.specs.HistoryShown.{history_shown, lines_of, messages_of, numbered}
 use Rattle.schedule_replay.specs.ClusterTrace.{trace}
 use Rattle.schedule_replay.specs.ClusterParts.{ClusterPart, cluster_text}
-use Rattle.schedule_replay.specs.ClusterShown.{core_of, frames_in, numbered_frames, replies_shown, life_replies}
+use Rattle.schedule_replay.specs.ClusterShown.{core_of, frames_in, numbered_frames, modes_shown, drops_shown, replies_shown, life_modes, life_drops, life_replies}
 use Rattle.schedule_replay.specs.ClusterTraceParts.{cluster_parts}
 
 -- The trace is the text of these parts, which echo the lines in order. The history is read off them. They show just the frames that were
--- sent, in order and numbered from 1, and of each node just the replies of its life, in order.
+-- sent, in order and numbered from 1, and of each node just the changes of mode, the drops and the replies of its life, each in order.
 pub record ClusterGivesHistory (s : Schedule) (xs : List ClusterPart) : Type 0 where
   pub text : trace s ≡ cluster_text xs
   pub lines : lines_of (core_of xs) ≡ s.lines
   pub history : history_shown (core_of xs) ≡ replayed_history s
   pub messages : messages_of (core_of xs) ≡ numbered 0 (sent (replayed_history s))
   pub frames : frames_in xs ≡ numbered_frames 0 (replayed s).frames
+  pub modes : (n : Id) → modes_shown n xs ≡ life_modes (replayed_life s n)
+  pub drops : (n : Id) → drops_shown n xs ≡ life_drops (replayed_life s n)
   pub replies : (n : Id) → replies_shown n xs ≡ life_replies (replayed_life s n)
 
 -- so it is for each schedule

@@ -16,7 +16,7 @@ use Rattle.replay_node.specs.NodeWorld.{needs_opening}
 use Rattle.replay_node.specs.Worlds.{node_world}
 use Rattle.policy_model.specs.declared.settings.Settings.{Settings}
 use Rattle.policy_model.specs.declared.events.Event.{Event}
-use Rattle.policy_model.specs.declared.events.Event.TheVariants.{Start, Tick, Frame as FrameCame, Client as LineCame}
+use Rattle.policy_model.specs.declared.events.Event.TheVariants.{Start, Tick, Frame as FrameCame, Client as LineCame, Disconnected as PeerGone}
 use Rattle.policy_model.specs.Events.{Item}
 use Rattle.policy_model.specs.Entries.{deeds_of, drops_of, frames_of, replies_of}
 use Rattle.event_text.specs.Events.{event_results}
@@ -56,6 +56,7 @@ module _ (nodes initial voting_only : List Id) where
   abbrev pub line_shown : Cluster → Line → List ℕ
   line_shown c (line.Tick n now word) = event_shown_if_up (settings_of nodes initial voting_only n) c (Tick now word)
   line_shown c (line.Client n bytes) = event_shown_if_up (settings_of nodes initial voting_only n) c (LineCame 0 bytes)
+  line_shown c (line.Disconnect n peer) = event_shown_if_up (settings_of nodes initial voting_only n) c (PeerGone peer)
   line_shown c (line.Deliver n number) = frame_shown (settings_of nodes initial voting_only n) c (frame_at c number)
   line_shown c (line.Crash n way) = stop_text n (node_world c.world n)
   line_shown c (line.Restart n) = restart_shown (settings_of nodes initial voting_only n) c

@@ -10,7 +10,7 @@ use Rattle.schedule_text.specs.declared.schedule.Schedule.{Schedule}
 use Rattle.trace_text.specs.Published.{last_published}
 use Rattle.policy_model.specs.declared.settings.Settings.{Settings}
 use Rattle.policy_model.specs.declared.events.Event.{Event}
-use Rattle.policy_model.specs.declared.events.Event.TheVariants.{Start, Tick, Frame as FrameCame, Client as LineCame}
+use Rattle.policy_model.specs.declared.events.Event.TheVariants.{Start, Tick, Frame as FrameCame, Client as LineCame, Disconnected as PeerGone}
 use Rattle.policy_model.specs.declared.events.Deed.{Deed}
 use Rattle.policy_model.specs.declared.events.Deed.TheVariants as deed
 use Rattle.policy_model.specs.Events.{Item}
@@ -69,6 +69,7 @@ module _ (nodes initial voting_only : List Id) where
   abbrev pub line_parts : Cluster → Line → List ClusterPart
   line_parts c (line.Tick n now word) = event_parts_if_up (settings_of nodes initial voting_only n) c (Tick now word)
   line_parts c (line.Client n bytes) = event_parts_if_up (settings_of nodes initial voting_only n) c (LineCame 0 bytes)
+  line_parts c (line.Disconnect n peer) = event_parts_if_up (settings_of nodes initial voting_only n) c (PeerGone peer)
   line_parts c (line.Deliver n number) = frame_parts (settings_of nodes initial voting_only n) c (frame_at c number)
   line_parts c (line.Crash n way) = (if c.world.down n then Shared (WasDown n) else Shared (WentDown n)) ∷ []
   line_parts c (line.Restart n) = restart_parts (settings_of nodes initial voting_only n) c

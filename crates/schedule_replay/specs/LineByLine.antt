@@ -67,6 +67,7 @@ ShowsLine initial h down (line.Fuse n count way) xs = xs ≡ []
 ShowsLine initial h down (line.Fail n count) xs = xs ≡ []
 ShowsLine initial h down (line.Tick n now word) xs = xs ≡ []
 ShowsLine initial h down (line.Client n bytes) xs = xs ≡ []
+ShowsLine initial h down (line.Disconnect n peer) xs = xs ≡ []
 
 -- the parts are the echo of the first line and what stands after it, and then those of the lines that are left
 pub record Begins (ShowsFirst : List TracePart → Type 0) (ShowsRest : (first rest : List TracePart) → Type 0) (l : Line)

@@ -37,6 +37,7 @@ after initial w (line.Fuse n count way) = ordered w n (Stop count way)
 after initial w (line.Fail n count) = ordered w n (Fault count)
 after initial w (line.Tick n now word) = w
 after initial w (line.Client n bytes) = w
+after initial w (line.Disconnect n peer) = w
 
 abbrev pub replayed_from : List Id → World → List Line → World
 replayed_from initial w [] = w

@@ -37,6 +37,7 @@ line_results initial w (line.Fuse n count way) = []
 line_results initial w (line.Fail n count) = []
 line_results initial w (line.Tick n now word) = []
 line_results initial w (line.Client n bytes) = []
+line_results initial w (line.Disconnect n peer) = []
 
 abbrev pub trace_line : List Id → World → Line → List ℕ
 trace_line initial w l = codes "> " ++ line_text l ++ codes "\n" ++ line_results initial w l

@@ -51,6 +51,7 @@ line_parts initial w (line.Fuse n count way) = []
 line_parts initial w (line.Fail n count) = []
 line_parts initial w (line.Tick n now word) = []
 line_parts initial w (line.Client n bytes) = []
+line_parts initial w (line.Disconnect n peer) = []
 
 abbrev pub parts_from : List Id → World → List Line → List TracePart
 parts_from initial w [] = []

@@ -104,6 +104,7 @@ impl Replayer {
             // No line of level core.
             Line::Tick(_, _, _) => (),
             Line::Client(_, _) => (),
+            Line::Disconnect(_, _) => (),
         }
         Ok(())
     }

@@ -79,6 +79,7 @@ impl ClusterReplayer {
         match line {
             Line::Tick(n, now, word) => self.tick(alloc, schedule, *n, *now, *word, text),
             Line::Client(n, bytes) => self.client(alloc, schedule, *n, bytes, text),
+            Line::Disconnect(n, peer) => self.disconnect(alloc, schedule, *n, peer.get(), text),
             Line::Deliver(n, ordinal) => self.deliver(alloc, schedule, *n, *ordinal, text),
             Line::Crash(n, way) => self.crash(alloc, schedule, *n, *way, text),
             Line::Restart(n) => self.restart(alloc, schedule, *n, text),
@@ -115,6 +116,29 @@ impl ClusterReplayer {
             (event.Tick now word))) }
     {
         self.event(alloc, schedule, n, Event::Tick { now, word }, text)
+    }
+
+    // The connection of a node to another has ended.
+    fn disconnect(
+        &mut self,
+        alloc: Global,
+        schedule: &Schedule,
+        n: NodeId,
+        peer: NodeId,
+        text: &mut Text,
+    ) -> Result<(), AllocError>
+        requires listed { has n schedule.now.nodes ≡ true }
+        requires stands { (c : Cluster)
+            × ClusterFor schedule.now.nodes schedule.now.initial schedule.now.voting_only self.old.nodes.items self.old.frames.items c }
+        ensures done { OnOk result
+            (DoesLine schedule.now.nodes schedule.now.initial schedule.now.voting_only self.old.nodes.items self.new.nodes.items
+            self.old.frames.items self.new.frames.items text.old text.new
+            (λ c. after_event_if_up (settings_of schedule.now.nodes schedule.now.initial schedule.now.voting_only n) c
+            (event.Disconnected peer))
+            (λ c. event_shown_if_up (settings_of schedule.now.nodes schedule.now.initial schedule.now.voting_only n) c
+            (event.Disconnected peer))) }
+    {
+        self.event(alloc, schedule, n, Event::Disconnected { peer }, text)
     }
 
     // A client's line has the one connection of a replay.
