@@ -3,6 +3,7 @@
 mod audits;
 mod coordinators;
 mod inspections;
+mod losses;
 mod nodes;
 mod passages;
 mod random;

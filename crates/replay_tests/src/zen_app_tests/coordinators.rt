@@ -4,7 +4,7 @@
 //! written out by hand before there was any code; those of rounds, stale checks, late excludes, hand-overs and drops
 //! follow from docs/policy.md, and states are shown whole by docs/formats.md. Where an example tells only some lines of an event,
 //! only those are compared, and `...` stands for the others, if any.
-use super::passages::{ONE, Passage, THREE, TWO_VOTER_A};
+use super::passages::{A_LEADS_THREE, ONE, Passage, TWO_VOTER_A};
 use super::runs::{replay_of, written_by};
 use super::texts;
 use schedule_text::Level;
@@ -241,67 +241,6 @@ const HANDS_OVER: Passage = &[
 
 // The leader a is excluded, and b and c have responded: the next event commits that they are the voters.
 const EXCLUDED: Passage = &[
-    "> tick a 0 7",
-    "...",
-    "> deliver b 1",
-    "...",
-    "> deliver c 2",
-    "...",
-    "> deliver a 3",
-    "> deliver a 4",
-    "> tick a 10 7",
-    "...",
-    "> tick a 20 7",
-    "...",
-    "> deliver b 5",
-    "...",
-    "> deliver c 6",
-    "...",
-    "> deliver a 7",
-    "...",
-    "> deliver a 8",
-    "> deliver a 9",
-    "...",
-    "> deliver b 10",
-    "...",
-    "> deliver c 11",
-    "...",
-    "> deliver a 12",
-    "...",
-    "> deliver a 13",
-    "...",
-    "> deliver a 14",
-    "...",
-    "> deliver a 15",
-    "...",
-    "> deliver b 16",
-    "...",
-    "> deliver a 17",
-    "...",
-    "> deliver a 18",
-    "...",
-    "> deliver a 19",
-    "...",
-    "> deliver b 20",
-    "...",
-    "> deliver a 21",
-    "...",
-    "> deliver b 22",
-    "...",
-    "> deliver c 23",
-    "...",
-    "> deliver a 24",
-    "...",
-    "> deliver a 25",
-    "...",
-    "> deliver a 26",
-    "...",
-    "> deliver a 27",
-    "...",
-    "> deliver b 28",
-    "...",
-    "> deliver c 29",
-    "...",
     r#"> client a {"id":1,"exclude":["a"]}"#,
     "...",
     "> deliver a 30",
@@ -418,9 +357,27 @@ const DROPS: Passage = &[
     "...",
 ];
 
+// A leader drops at once whom it watches, once, and no node that it doesn't watch.
+const DROPS_ITS_FOLLOWER: Passage = &[
+    "> disconnect a b",
+    "drop a b disconnect",
+    "> disconnect a b",
+    "> deliver a 9",
+    "...",
+    "m12 a->a response 1/2",
+    "> deliver a 12",
+    "...",
+    "m13 a->a commit 1/2",
+    "> deliver a 13",
+    "act a ok commit a 1/2",
+    r#"act a ok value 3 a {"exclusions":[],"master":"a","members":["a"],"settings":{}}"#,
+    r#"m14 a->a publish {"committed":["a"],"config":["a"],"parent":{"term":1,"version":2},"term":1,"value":{"exclusions":[],"master":"a","members":["a"],"settings":{}},"version":3}"#,
+    "> disconnect a b",
+];
+
 const THREE_VOTER_A: Passage = &["nodes a,b,c", "initial a"];
 
-const THREE_B_VOTES_ONLY: Passage = &["nodes a,b,c", "initial a,b,c", "voting-only b"];
+pub const THREE_B_VOTES_ONLY: Passage = &["nodes a,b,c", "initial a,b,c", "voting-only b"];
 
 const THREE_B_AND_C_VOTE_ONLY: Passage = &["nodes a,b,c", "initial a,b,c", "voting-only b,c"];
 
@@ -480,17 +437,22 @@ const ROWS: &[(&str, Passage, &[Passage])] = &[
     (
         "a_leader_hands_over_past_voting_only_nodes: to the other",
         THREE_B_VOTES_ONLY,
-        &[EXCLUDED, TO_THE_OTHER],
+        &[A_LEADS_THREE, EXCLUDED, TO_THE_OTHER],
     ),
     (
         "a_leader_hands_over_past_voting_only_nodes: to nobody",
         THREE_B_AND_C_VOTE_ONLY,
-        &[EXCLUDED, TO_NOBODY],
+        &[A_LEADS_THREE, EXCLUDED, TO_NOBODY],
     ),
     (
         "a_leader_drops_who_lags_and_who_fails_its_checks_by_ascending_id",
         THREE_VOTER_A,
         &[DROPS],
+    ),
+    (
+        "a_leader_drops_a_lost_follower_once",
+        TWO_VOTER_A,
+        &[FOLLOWER, DROPS_ITS_FOLLOWER],
     ),
 ];
 
@@ -518,7 +480,7 @@ fn shows(trace: &[u8], wanted: &[u8]) -> bool {
 }
 
 // Whether the schedule of a row, replayed over whole nodes, shows its lines.
-fn shows_its_lines(
+pub fn shows_its_lines(
     alloc: Global,
     header: Passage,
     passages: &[Passage],
