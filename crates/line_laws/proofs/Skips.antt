@@ -5,7 +5,7 @@ use Rattle.std.specs.Str.{bytes_eq}
 use Rattle.voting_config.specs.Ids.{Id, is_id}
 use Rattle.client_lines.specs.Replies.{reply_text}
 use Rattle.policy_model.specs.declared.events.DropCause.{DropCause}
-use Rattle.policy_model.specs.declared.events.DropCause.TheVariants.{Checks, Lag}
+use Rattle.policy_model.specs.declared.events.DropCause.TheVariants.{Checks, Lag, Disconnect}
 use Rattle.policy_model.specs.declared.events.Mode.{Mode}
 use Rattle.policy_model.specs.declared.events.Mode.TheVariants as mode
 use Rattle.world_model.specs.declared.acts.Message.{Message}
@@ -105,6 +105,7 @@ mode_feedless (mode.Follower leader) fits = id_feedless leader fits
 cause_feedless : (c : DropCause) → lacks 10 (cause_text c) ≡ true
 cause_feedless Checks = refl
 cause_feedless Lag = refl
+cause_feedless Disconnect = refl
 
 pub event_read : LawEvent
 event_read = record {
