@@ -160,6 +160,7 @@ module _ {ids : List Id} (set : IsIdSet ids) where
   echo_again Core (line.Fail n k) f = by_more (line.Fail n k) (codes "fail") n (decimal k) refl refl f.0 (first_named n (behind (decimal k)) (is_one n f.0), f.1)
   echo_again Core (line.Tick n m w) f = absurd f
   echo_again Core (line.Client n r) f = absurd f
+  echo_again Core (line.Disconnect n q) f = absurd f
   echo_again Node (line.Boot n) f = absurd f
   echo_again Node (line.StartJoin n c t) f = absurd f
   echo_again Node (line.Value n v x cfg) f = absurd f
@@ -169,6 +170,10 @@ module _ {ids : List Id} (set : IsIdSet ids) where
   echo_again Node (line.Fuse n k w) f = by_more (line.Fuse n k w) (codes "fuse") n (decimal k ++ 32 ∷ mode_text w) refl refl f.0 (first_named n (behind (decimal k ++ 32 ∷ mode_text w)) (is_one n f.0), f.1, f.2)
   echo_again Node (line.Fail n k) f = by_more (line.Fail n k) (codes "fail") n (decimal k) refl refl f.0 (first_named n (behind (decimal k)) (is_one n f.0), f.1)
   echo_again Node (line.Tick n m w) f = by_more (line.Tick n m w) (codes "tick") n (decimal m ++ 32 ∷ decimal w) refl refl f.0 (first_named n (behind (decimal m ++ 32 ∷ decimal w)) (is_one n f.0), f.1, f.2)
+  echo_again Node (line.Disconnect n q) f =
+      let words : words_of (line_text (line.Disconnect n q)) ≡ codes "disconnect" ∷ n ∷ q ∷ [] =
+      more_cut (codes "disconnect") n q refl (clear n f.0) ∙ ap (λ (x : List (List ℕ)). codes "disconnect" ∷ n ∷ x) (split_alone 32 q (clear q f.1)) in
+      echo_by (line.Disconnect n q) (codes "disconnect" ∷ n ∷ q ∷ []) words (first_named n q (is_one n f.0), named q (with_word n []) (is_one q f.1) (λ e. omega (arith, few n)))
   echo_again Node (line.Client n r) f = by_more (line.Client n r) (codes "client") n r refl refl f.0 (first_named n (behind r) (is_one n f.0), f.1)
 
 -- ---- the line

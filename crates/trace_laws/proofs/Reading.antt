@@ -11,7 +11,7 @@ use Rattle.serde_json.specs.Written.{compact_text}
 use Rattle.cluster_state.specs.Json.{value_json}
 use Rattle.client_lines.specs.Replies.{reply_text}
 use Rattle.policy_model.specs.declared.events.DropCause.{DropCause}
-use Rattle.policy_model.specs.declared.events.DropCause.TheVariants.{Checks, Lag}
+use Rattle.policy_model.specs.declared.events.DropCause.TheVariants.{Checks, Lag, Disconnect}
 use Rattle.policy_model.specs.declared.events.Mode.{Mode}
 use Rattle.policy_model.specs.declared.events.Mode.TheVariants as mode
 use Rattle.world_model.specs.declared.acts.Act.TheVariants.{Bootstrap, StartJoin, TakeJoin, Value, Publish, Response, Commit, Open}
@@ -162,6 +162,7 @@ mode_feedless (mode.Follower leader) fits = id_feedless leader fits
 cause_feedless : (c : DropCause) → lacks 10 (cause_text c) ≡ true
 cause_feedless Checks = refl
 cause_feedless Lag = refl
+cause_feedless Disconnect = refl
 
 pub note_read : LawNote
 note_read = record {
