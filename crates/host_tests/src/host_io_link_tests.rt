@@ -705,8 +705,8 @@ const TWO_LINKS: &[Row] = &[
     Here(Asks(1)),
     There(Gives(1, ASKED)),
     There(SendsTo(b'a', ANSWERED)),
-    Here(Gives(1, ANSWERED)),
     PeerEnds,
+    Here(Gives(1, ANSWERED)),
     Here(Closes(1)),
     Here(Loses(b'b')),
 ];
