@@ -92,7 +92,7 @@ module _ {D : Type 0} (d : Disks D) where
 
   -- A node that was opened with this record lived on to this life, and its disk went from one to the other. It did what the policy says,
   -- and its acts keep the rules of the core by themselves. It went on by one entry after the other: at the end of each a crash leaves the
-  -- record of all acts by then, and within one that of what was done by then, without the act in hand or with it (`holds`). At the end
+  -- record of all acts by then, and within one that of some first acts of it, the last of these kept or not (`holds`). At the end
   -- whatever files a crash may leave stand for the record of all acts, a last one that was struck counted as not kept or as kept. An act is
   -- struck only where the disk failed meanwhile, and none is said to be one at which the node crashed.
   pub record LivesOn (s : Settings) (kept : Kept) (opened back : D) (life : Life) : Type 0 where
