@@ -26,8 +26,8 @@ has_crashed (Then g act outcome) = is_crashed outcome || has_crashed g
 
 module _ {C : Type 0} (stands_for : C → Settings → Life → Type 0) (told : Type 0) (moment : C → ℕ)
     (left_since : C → ℕ → Option Kept → Type 0) (s : Settings) where
-  -- A node that stood for a life became one that stands for it with one more entry. A crash at any moment between leaves the record of what
-  -- was done by then: of the acts before this entry and those of it so far, without the act in hand or with it.
+  -- A node that stood for a life became one that stands for it with one more entry. A crash at any moment between leaves the record of the
+  -- acts before this entry and of some first acts of it, the last of these kept or not.
   pub record Passes (old now : C) (life : Life) (e : Entry) : Type 0 where
     pub stands : stands_for now s (Lived life e)
     pub any_moment : told → LeavesOnly moment left_since old now (IsLeftBy life e)

@@ -17,7 +17,7 @@ module _ {D : Type 0} (d : Ghosts D) where
   LeavesLastOn disk s life = d.told → LeavesLast d.moment StoodOn disk life
 
   -- From one life to another, by one entry after the other: there is a disk at the end of each, of which a crash leaves what is opened with
-  -- the last record, and what a crash at any moment between two of them leaves is opened with the record of what was done by then, without
-  -- the act in hand or with it.
+  -- the last record, and what a crash at any moment between two of them leaves is opened with the record of some first acts of the entry,
+  -- the last of these kept or not.
   abbrev pub HoldsOn : (old now : D) → Settings → (life new : Life) → Type 0
   HoldsOn old now s life new = Holds LeavesLastOn d.told d.moment StoodOn d.faults old now s life new
