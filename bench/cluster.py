@@ -10,8 +10,7 @@ import time
 sys.dont_write_bytecode = True
 from peers import memory, running
 
-# How long each wait may take, in seconds: for the first put, for all nodes as members, and for a put after the leader's end, which begins with three
-# checks of 10 s; and all of it.
+# How long each wait may take, in seconds: for the first put, for all nodes as members, and for a put after the leader's end; and all of it.
 FIRST_SECONDS, MEMBERS_SECONDS, GAP_SECONDS, ALL_SECONDS = 60, 60, 120, 300
 # How long a reply may take, and the rest before the next question.
 REPLY_SECONDS, REST = 5, 0.1

@@ -19,7 +19,7 @@ sys.dont_write_bytecode = True
 import nodes as running
 
 NAMES = ['a', 'b', 'c']
-# How long the members may take to find a leader, in seconds. A follower of `zen` gives its leader up after three checks of 10 s.
+# How long the members may take to find a leader, in seconds. Where no connection ends, a follower of `zen` gives its leader up after three checks of 10 s.
 PATIENCE = 120
 TICKS = os.sysconf('SC_CLK_TCK')
 
