@@ -45,9 +45,13 @@ left_none decide ws e = ap (left_by decide) e
 other_term : (a b : ℕ) (x y : Bool) → a < b → (nat_eq a b && x && y) ≡ false
 other_term a b x y less = grind (arith, nat_tests)
 
+no_both : (z w : Bool) → w ≡ false → (z && w) ≡ false
+no_both true w h = h
+no_both false w h = refl
+
 pub something_new : (l : NextMaster) (t : Tasks) → l.accepted.term < l.term → is_nothing_new l t ≡ false
 unfolding is_nothing_new is_accepted
-something_new l t less = other_term l.accepted.term l.term _ _ less
+something_new l t less = no_both _ _ (other_term l.accepted.term l.term _ _ less)
 
 -- a request that is among others stands between some of them
 record Split (done : List Waiting) (w : Waiting) : Type 0 where

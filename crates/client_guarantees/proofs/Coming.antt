@@ -113,8 +113,14 @@ module _ (P : ℕ → Request → Type 0) where
     q-hands_over : (v : View) → Queues P (next.hands_over s v)
     q-hands_over v = search (q-if, q-asks_successor, Ends, Other)
 
+    q-asks_votes : (v : View) → Queues P (next.asks_votes s v)
+    q-asks_votes v = search (q-asks_successor, Other)
+
+    q-leads_on : (v : View) → Queues P (next.leads_on s v)
+    q-leads_on v = search (q-if, q-asks_votes, q-makes_state)
+
     q-goes_on : (v : View) → Queues P (next.goes_on s v)
-    q-goes_on v = search (q-if, q-makes_state, q-hands_over, Ends)
+    q-goes_on v = search (q-if, q-leads_on, q-hands_over, Ends)
 
     -- joins
     q-leads : (v : View) → Queues P (joins.leads s v)
@@ -219,7 +225,7 @@ module _ (P : ℕ → Request → Type 0) where
     q-times_out v = q-append _ _ (q-replies s _) (Other _ _ refl Ends)
 
     q-ticks_leader : (v : View) → Queues P (rules.ticks_leader s v)
-    q-ticks_leader v = q-if (rules.has_timed_out v.publication v.moment) _ _ (q-becomes_candidate v) (q-then s v _ (next.goes_on s) (q-then s v _ (checks.checks_followers s) (q-times_out v) q-checks_followers) q-goes_on)
+    q-ticks_leader v = q-if (rules.gives_up s v) _ _ (q-becomes_candidate v) (q-then s v _ (next.goes_on s) (q-then s v _ (checks.checks_followers s) (q-times_out v) q-checks_followers) q-goes_on)
 
     q-ticks_candidate : (v : View) (word : ℕ) → Queues P (rules.ticks_candidate s v word)
     q-ticks_candidate v word =
@@ -312,7 +318,7 @@ fits_other P (Notes ExclusionsAcked) e = tt
 fits_other P (Notes StateMade) e = tt
 fits_other P (Notes HandedOver) e = tt
 fits_other P (Notes (PeerLost id)) e = tt
-fits_other P (Notes (LeaderLost rank)) e = tt
+fits_other P (Notes LeaderLost) e = tt
 
 all_fit : (P : ℕ → Request → Type 0) (is : List Item) → Queues P is → AllFit P is
 all_fit P xs Ends = tt
@@ -362,7 +368,7 @@ one_queued P l (Notes ExclusionsAcked) c r f q = inr q
 one_queued P l (Notes StateMade) c r f q = inr q
 one_queued P l (Notes HandedOver) c r f q = inr q
 one_queued P l (Notes (PeerLost id)) c r f q = inr q
-one_queued P l (Notes (LeaderLost rank)) c r f q = inr q
+one_queued P l (Notes LeaderLost) c r f q = inr q
 
 pub all_queued : (P : ℕ → Request → Type 0) (l : Log) (is : List Item) (conn : ℕ) (request : Request) → AllFit P is → WasQueued (added l is) conn request → P conn request ⊎ WasQueued l conn request
 all_queued P l [] conn request a q = inr q

@@ -46,7 +46,7 @@ abbrev a : Id
 a = 97 ∷ []
 
 abbrev alone : Settings
-alone = record { me = a; peers = []; initial = a ∷ []; voting_only = []; shrink = true }
+alone = record { me = a; peers = []; initial = a ∷ []; voting_only = []; policy = record { shrink = true; second = false } }
 
 -- the node does at an event what the rules say
 abbrev does : Life → Event → Life

@@ -3,7 +3,8 @@ use Rattle.std.proofs.Common.{◌≡◌, Bool, true, false, true≢false, not, �
 use Rattle.std.specs.Prelude.{◌+◌, cond, is_some, if◌then◌else◌}
 use Rattle.std.proofs.lemmas.Bool.{both_ways, and_parts, not-true}
 use Rattle.std.proofs.lemmas.List.{append_assoc, append-nil}
-use Rattle.voting_config.specs.Ids.{Id}
+use Rattle.std.specs.List.{list_any}
+use Rattle.voting_config.specs.Ids.{Id, has}
 use Rattle.cluster_state.specs.declared.state.ClusterState.{ClusterState}
 use Rattle.cluster_state.specs.declared.state.ClusterValue.{ClusterValue}
 use Rattle.cluster_state.specs.declared.state.StateId.{StateId}
@@ -29,7 +30,7 @@ use Rattle.policy_model.proofs.Fits.{waiting-added}
 use Rattle.client_guarantees.specs.Processed.{processed_into_next}
 use Rattle.client_guarantees.specs.Asked.{MeetsEach}
 use Rattle.client_guarantees.proofs.Leading.{IsDone, HasWon}
-use Rattle.client_guarantees.proofs.Steady.{standing, steady-sends, steady-hands_over}
+use Rattle.client_guarantees.proofs.Steady.{standing, steady-sends, steady-hands_over, steady-asks_votes}
 use Rattle.client_guarantees.proofs.Folding.{Each, each-map, IsAmong, next_folded, next_had, Of, of-waiting}
 use Rattle.client_guarantees.proofs.Backing.{HasAcceptedLast, IsUnique}
 use Rattle.client_guarantees.proofs.Telling.{Basis, Up, HasReached, place, true-later, grown, Keeps, keeps-none, keeps-then, keeps-if, keeps-item, keeps-steady, keeps-replies}
@@ -194,13 +195,23 @@ module _ (h : History) (U : IsUnique h) (s : Settings) (P : Basis) where
             came = left;
           }
 
+  -- votes are lacking only of those that responded to a publication
+  has_responders : (s : Settings) (v : View) → next.wants_votes s v ≡ true → v.publication ≡ None → ⊥
+  has_responders s v w n =
+      let due = and_parts (doing.is_second s) _ w in
+      let lacking = and_parts _ (next.lacks_vote s v) due.1 in
+      let none : false ≡ true = subst (λ (o : Option Publication). list_any (λ (id : Id). not (has id v.node.join_votes)) (next.responders_of o) ≡ true) n lacking.1 in
+      cc
+
   pub keeps-goes_on : (v : View) (g : List Waiting) → IsReadyToGo h s P (place v g) → Keeps h s P v g (next.goes_on s v) (Holds h s P)
   keeps-goes_on v g r =
       keeps-if h s P v g (doing.is_leader v.mode && not (next.is_in_flight v.publication)) _ [] (Holds h s P)
       (λ e.
       let parts = and_parts _ _ e in
       keeps-if h s P v g (doing.may_win s v) _ _ (Holds h s P)
-      (λ m. keeps-makes_state v g r parts.0 (not-true _ parts.1) m)
+      (λ m. keeps-if h s P v g (next.wants_votes s v) _ _ (Holds h s P)
+      (λ w. keeps-steady h s P v g _ (Holds h s P) (steady-asks_votes s v) (record { stands = record { leads = r.ready.leads; barred = λ l n. absurd (has_responders s v w n) }; made = r.made; came = r.came }))
+      (λ w. keeps-makes_state v g r parts.0 (not-true _ parts.1) m))
       (λ m. keeps-steady h s P v g _ (Holds h s P) (steady-hands_over s v) (record { stands = record { leads = r.ready.leads; barred = λ l n. m }; made = r.made; came = r.came })))
       (λ e. keeps-none h s P v g (Holds h s P) (record { stands = record { leads = r.ready.leads; barred = λ l n. absurd (has_publication _ v.publication e l n) }; made = r.made; came = r.came }))
 

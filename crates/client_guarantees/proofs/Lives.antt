@@ -89,7 +89,7 @@ processed-And s l (Notes ExclusionsAcked) e = refl
 processed-And s l (Notes StateMade) e = refl
 processed-And s l (Notes HandedOver) e = refl
 processed-And s l (Notes (PeerLost id)) e = refl
-processed-And s l (Notes (LeaderLost rank)) e = refl
+processed-And s l (Notes LeaderLost) e = refl
 
 processed-added : (s : Settings) (l : Log) (is : List Item) → are_own is ≡ true → processed_of s (added l is) ≡ processed_after_all s (view_of s l) (processed_of s l) is
 processed-added s l [] e = refl

@@ -65,7 +65,7 @@ queued s (And l (Notes ExclusionsAcked)) = record { waiting = each-left (λ w. W
 queued s (And l (Notes StateMade)) = record { waiting = each-after (λ w. WasQueued l w.conn w.request) (as_master s (node_of l)) (tasks_of s l) (of-waiting (WasQueued l) (as_master s (node_of l)) (tasks_of s l) (queued s l).waiting); processed = each-append (λ w. WasQueued l w.conn w.request) (processed_of s l) (processed_into_next (as_master s (node_of l)) (tasks_of s l)) (queued s l).processed (of-new (WasQueued l) (as_master s (node_of l)) (tasks_of s l) (queued s l).waiting) }
 queued s (And l (Notes HandedOver)) = record { waiting = (queued s l).waiting; processed = (queued s l).processed }
 queued s (And l (Notes (PeerLost id))) = record { waiting = (queued s l).waiting; processed = (queued s l).processed }
-queued s (And l (Notes (LeaderLost rank))) = record { waiting = (queued s l).waiting; processed = (queued s l).processed }
+queued s (And l (Notes LeaderLost)) = record { waiting = (queued s l).waiting; processed = (queued s l).processed }
 
 pub processed_was_queued : (s : Settings) (l : Log) (w : Waiting) → Contains (processed_of s l) w → WasQueued l w.conn w.request
 processed_was_queued s l w c = All-contains (λ (x : Waiting). WasQueued l x.conn x.request) (processed_of s l) w (each-all_of (λ x. WasQueued l x.conn x.request) (processed_of s l) (queued s l).processed) c

@@ -253,8 +253,9 @@ module _ (h : History) (U : IsUnique h) (s : Settings) (P : Basis) where
 
   keeps-follows_checker : (v : View) (g : List Waiting) (p : Id) → Holds h s P (place v g) → Keeps h s P v g (checks.follows_checker s v p) (Holds h s P)
   keeps-follows_checker v g p i =
-      keeps-if h s P v g (doing.is_leader v.mode) _ _ (Holds h s P) (λ e. keeps-answers_leader v g p false i)
-      (λ e. keeps-then h s P v g _ (λ u. checks.answers_leader s u p true) (Holds h s P) (Holds h s P) (keeps-becomes_follower h s P v g p i) (λ u g k. keeps-answers_leader u g p true k))
+      keeps-if h s P v g (doing.is_second s) _ _ (Holds h s P) (λ e. keeps-answers_leader v g p (doing.follows_node v.mode p) i)
+      (λ e. keeps-if h s P v g (doing.is_leader v.mode) _ _ (Holds h s P) (λ e. keeps-answers_leader v g p false i)
+      (λ e. keeps-then h s P v g _ (λ u. checks.answers_leader s u p true) (Holds h s P) (Holds h s P) (keeps-becomes_follower h s P v g p i) (λ u g k. keeps-answers_leader u g p true k)))
 
   keeps-checked_by_leader : (v : View) (g : List Waiting) (p : Id) (term : ℕ) → Holds h s P (place v g) → Keeps h s P v g (checks.on_follower_check s v p term) (Holds h s P)
   keeps-checked_by_leader v g p term i =
@@ -304,7 +305,7 @@ module _ (h : History) (U : IsUnique h) (s : Settings) (P : Basis) where
 
   keeps-ticks_leader : (v : View) (g : List Waiting) → Holds h s P (place v g) → Keeps h s P v g (rules.ticks_leader s v) (Holds h s P)
   keeps-ticks_leader v g i =
-      keeps-if h s P v g (rules.has_timed_out v.publication v.moment) _ _ (Holds h s P)
+      keeps-if h s P v g (rules.gives_up s v) _ _ (Holds h s P)
       (λ e. keeps-becomes_candidate h s P v g)
       (λ e. keeps-then h s P v g _ (next.goes_on s) (Holds h s P) (Holds h s P)
       (keeps-then h s P v g _ (checks.checks_followers s) (Holds h s P) (Holds h s P) (keeps-times_out v g i) (λ u g k. keeps-steady h s P u g _ (Holds h s P) (steady-checks_followers s u) k))

@@ -8,7 +8,8 @@ use Rattle.voting_config.proofs.Sets.{same_is, has-set_of}
 use Rattle.cluster_state.specs.declared.state.ClusterState.{ClusterState}
 use Rattle.cluster_state.specs.declared.state.ClusterValue.{ClusterValue}
 use Rattle.reconfigurator.specs.Targets.{candidates_of, chosen_of, size_of, target_of}
-use Rattle.master_tasks.specs.NextState.{next_value, next_config, config_for}
+use Rattle.master_tasks.specs.NextState.{next_value, next_config, config_for, may_move}
+use Rattle.master_tasks.specs.declared.policy.Policy.{Policy}
 use Rattle.client_guarantees.specs.Laws.{LawExcludedStayOut}
 
 neither : (a b : Bool) → a ≡ false → b ≡ false → (a || b) ≡ false
@@ -86,15 +87,15 @@ module _ (id : Id) where
         | false ↦ k
       ]
 
-  lacks-config : (me : Id) (accepted : ClusterState) (committed votes : List Id) (shrink : Bool) (value : ClusterValue)
-      → has id value.exclusions ≡ true → has id accepted.config ≡ false → has id (config_for me accepted committed votes shrink value) ≡ false
+  lacks-config : (me : Id) (term : ℕ) (accepted : ClusterState) (committed votes : List Id) (policy : Policy) (value : ClusterValue)
+      → has id value.exclusions ≡ true → has id accepted.config ≡ false → has id (config_for me term accepted committed votes policy value) ≡ false
   unfolding config_for
-  lacks-config me accepted committed votes shrink value h k =
-      elim (same_config committed accepted.config) as (λ b. has id (if b then target_of (among value.members votes) value.exclusions me accepted.config shrink else accepted.config) ≡ false) [
-        | true ↦ lacks-target (among value.members votes) value.exclusions me accepted.config shrink h k
+  lacks-config me term accepted committed votes policy value h k =
+      elim (may_move term accepted committed policy) as (λ b. has id (if b then target_of (among value.members votes) value.exclusions me accepted.config policy.shrink else accepted.config) ≡ false) [
+        | true ↦ lacks-target (among value.members votes) value.exclusions me accepted.config policy.shrink h k
         | false ↦ k
       ]
 
 pub excluded_stay_out : LawExcludedStayOut
 unfolding next_config
-excluded_stay_out l t id h k = lacks-config id l.me l.accepted l.committed l.votes l.shrink (next_value l t) h k
+excluded_stay_out l t id h k = lacks-config id l.me l.term l.accepted l.committed l.votes l.policy (next_value l t) h k

@@ -52,7 +52,7 @@ is_steady_note LeaderChecked = true
 is_steady_note (LeaderAnswered good) = true
 is_steady_note HandedOver = true
 is_steady_note (PeerLost id) = true
-is_steady_note (LeaderLost rank) = true
+is_steady_note LeaderLost = true
 is_steady_note note = false
 
 abbrev pub is_steady : Item → Bool
@@ -96,7 +96,7 @@ note_stands s v LeaderChecked e = refl
 note_stands s v (LeaderAnswered good) e = refl
 note_stands s v HandedOver e = refl
 note_stands s v (PeerLost id) e = refl
-note_stands s v (LeaderLost rank) e = refl
+note_stands s v LeaderLost e = refl
 note_stands s v n e = cc
 
 item_stands : (s : Settings) (v : View) (i : Item) → is_steady i ≡ true → standing (moved s v i) ≡ standing v
@@ -136,6 +136,9 @@ module _ (s : Settings) where
 
   pub steady-hands_over : (v : View) → IsSteady (next.hands_over s v)
   steady-hands_over v = search (steady-if, steady-asks_successor, Calm, Still)
+
+  pub steady-asks_votes : (v : View) → IsSteady (next.asks_votes s v)
+  steady-asks_votes v = search (steady-asks_successor, Still)
 
   steady-stands_for_election : (v : View) (term : ℕ) → IsSteady (elections.stands_for_election s v term)
   steady-stands_for_election v term = search (steady-if, steady-sends, Calm, Still)

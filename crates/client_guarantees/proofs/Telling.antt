@@ -84,7 +84,7 @@ unmade s v g (Notes ExclusionsAcked) e = refl
 unmade s v g (Notes StateMade) e = absurd (true≢false e)
 unmade s v g (Notes HandedOver) e = refl
 unmade s v g (Notes (PeerLost id)) e = refl
-unmade s v g (Notes (LeaderLost rank)) e = refl
+unmade s v g (Notes LeaderLost) e = refl
 
 steady_unmade : (i : Item) → is_steady i ≡ true → is_made i ≡ false
 steady_unmade (Opens found) e = refl
@@ -114,7 +114,7 @@ steady_unmade (Notes ExclusionsAcked) e = refl
 steady_unmade (Notes StateMade) e = absurd (true≢false (sym e))
 steady_unmade (Notes HandedOver) e = refl
 steady_unmade (Notes (PeerLost id)) e = refl
-steady_unmade (Notes (LeaderLost rank)) e = refl
+steady_unmade (Notes LeaderLost) e = refl
 
 -- what was processed stays so
 pub record Grown (g k : List Waiting) : Type 0 where
@@ -149,7 +149,7 @@ grown_item s v g (Notes ExclusionsAcked) = record { more = []; is = sym (append-
 grown_item s v g (Notes StateMade) = record { more = processed_into_next (as_master s v.node) v.tasks; is = refl }
 grown_item s v g (Notes HandedOver) = record { more = []; is = sym (append-nil g) }
 grown_item s v g (Notes (PeerLost id)) = record { more = []; is = sym (append-nil g) }
-grown_item s v g (Notes (LeaderLost rank)) = record { more = []; is = sym (append-nil g) }
+grown_item s v g (Notes LeaderLost) = record { more = []; is = sym (append-nil g) }
 
 grown-trans : (g k l : List Waiting) → Grown g k → Grown k l → Grown g l
 grown-trans g k l a b = record { more = a.more ++ b.more; is = b.is ∙ ap (λ (x : List Waiting). x ++ b.more) a.is ∙ append_assoc g a.more b.more }

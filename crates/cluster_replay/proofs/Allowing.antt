@@ -302,7 +302,7 @@ fit-noted s v ExclusionsAcked f n = record { node = f.node; tasks = fit-left _ v
 fit-noted s v StateMade f n = record { node = f.node; tasks = fit-after (as_master s v.node) v.tasks f.tasks; names = record { term = f.names.term; version = f.names.version; mode = f.names.mode; peers = f.names.peers; publication = f.names.publication; watched = f.names.watched } }
 fit-noted s v HandedOver f n = record { node = f.node; tasks = f.tasks; names = record { term = f.names.term; version = f.names.version; mode = f.names.mode; peers = f.names.peers; publication = f.names.publication; watched = f.names.watched } }
 fit-noted s v (PeerLost id) f n = record { node = f.node; tasks = f.tasks; names = record { term = f.names.term; version = f.names.version; mode = f.names.mode; peers = peers-unanswered id v.finder.peers f.names.peers; publication = f.names.publication; watched = some-followers (λ (x : WatchedNode). not (same x.id id)) v.followers.watched f.names.watched } }
-fit-noted s v (LeaderLost rank) f n = record { node = f.node; tasks = f.tasks; names = record { term = f.names.term; version = f.names.version; mode = f.names.mode; peers = f.names.peers; publication = f.names.publication; watched = f.names.watched } }
+fit-noted s v LeaderLost f n = record { node = f.node; tasks = f.tasks; names = record { term = f.names.term; version = f.names.version; mode = f.names.mode; peers = f.names.peers; publication = f.names.publication; watched = f.names.watched } }
 
 pub fit-moved : (s : Settings) (ms : List Message) (v : View) (is : List Item) → IsAllowed s ms v is → FitView v → FitView (moved_all s v is)
 fit-moved s ms v is (Ended ms' v') f = f

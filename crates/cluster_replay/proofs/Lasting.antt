@@ -113,7 +113,7 @@ last_after s l v (Notes CommitAcked) e = tt
 last_after s l v (Notes ExclusionsAcked) e = tt
 last_after s l v (Notes HandedOver) e = tt
 last_after s l v (Notes (PeerLost id)) e = tt
-last_after s l v (Notes (LeaderLost rank)) e = tt
+last_after s l v (Notes LeaderLost) e = tt
 
 here : (s : Settings) (l : Log) (made : Option View) (act : Act) (u : Outcome) (g : NodeHistory) (version : ℕ) (config : List Id) (value : ClusterValue) (o : Outcome)
     → IsLast s l made → IsMadeOf s made act → Then g (Value version config value) o ≡ Then (acts_of l) act u → WasMadeIn s (And l (Acts act u)) g value

@@ -11,7 +11,7 @@ use Rattle.policy_model.specs.Events.{Item, Notes, Joined, Queued}
 use Rattle.policy_model.specs.Views.{View}
 use Rattle.policy_model.specs.Moves.{moved_all}
 use Rattle.policy_model.specs.Doing.{is_leader, may_win}
-use Rattle.policy_model.specs.NextState.{goes_on, makes_state, hands_over, is_in_flight}
+use Rattle.policy_model.specs.NextState.{goes_on, leads_on, hands_over, is_in_flight}
 use Rattle.coordinator.specs.Plans.{IsPlanned}
 use Rattle.coordinator.specs.Ahead.{HasPlan, queues_one}
 use Rattle.coordinator.specs.Showing.{Shown}
@@ -24,16 +24,16 @@ use Rattle.coordinator.proofs.Quiet.{makes_nothing, makes_note}
 use Rattle.coordinator.proofs.Foreseen.{has_planned}
 
 pub planned_member : (s : Settings) (v : View) (p : Id) (plan : Option Plan) (copy tasks : Tasks) → copy ≡ v.tasks → tasks ≡ to_be_added copy p
-    → HasPlan (leader_of s.me v.node.term v.node.accepted v.node.committed v.node.join_votes s.shrink) tasks plan → IsPlanned s (moved_all s v (Notes (Joined (p ∷ [])) ∷ [])) plan
+    → HasPlan (leader_of s.me v.node.term v.node.accepted v.node.committed v.node.join_votes s.policy) tasks plan → IsPlanned s (moved_all s v (Notes (Joined (p ∷ [])) ∷ [])) plan
 planned_member s v p plan copy tasks copy_is tasks_is has =
-    has_planned s (moved_all s v (Notes (Joined (p ∷ [])) ∷ [])) (leader_of s.me v.node.term v.node.accepted v.node.committed v.node.join_votes s.shrink) tasks plan has refl
+    has_planned s (moved_all s v (Notes (Joined (p ∷ [])) ∷ [])) (leader_of s.me v.node.term v.node.accepted v.node.committed v.node.join_votes s.policy) tasks plan has refl
     (tasks_is ∙ ap (λ (t : Tasks). to_be_added t p) copy_is)
 
 pub same_plan : (s : Settings) (v : View) (plan : Option Plan) (term : ℕ) (votes : List Id) (tasks : Tasks) → term ≡ v.node.term → votes ≡ v.node.join_votes
-    → HasPlan (leader_of s.me term v.node.accepted v.node.committed votes s.shrink) tasks plan → HasPlan (leader_of s.me v.node.term v.node.accepted v.node.committed v.node.join_votes s.shrink) tasks plan
+    → HasPlan (leader_of s.me term v.node.accepted v.node.committed votes s.policy) tasks plan → HasPlan (leader_of s.me v.node.term v.node.accepted v.node.committed v.node.join_votes s.policy) tasks plan
 same_plan s v plan term votes tasks term_is votes_is has =
-    subst (λ (x : ℕ). HasPlan (leader_of s.me x v.node.accepted v.node.committed v.node.join_votes s.shrink) tasks plan) term_is
-    (subst (λ (x : List Id). HasPlan (leader_of s.me term v.node.accepted v.node.committed x s.shrink) tasks plan) votes_is has)
+    subst (λ (x : ℕ). HasPlan (leader_of s.me x v.node.accepted v.node.committed v.node.join_votes s.policy) tasks plan) term_is
+    (subst (λ (x : List Id). HasPlan (leader_of s.me term v.node.accepted v.node.committed x s.policy) tasks plan) votes_is has)
 
 module _ {K : Type 0} (k : Ghosts K) where
   abbrev view : Coordinator K → View
@@ -58,5 +58,5 @@ module _ {K : Type 0} (k : Ghosts K) where
       let s = old.settings in
       let v = view now in
       let rest : Make now now o o (goes_on s v) =
-      subst (λ (b : Bool). Make now now o o (if b then (if may_win s v then makes_state s v else hands_over s v) else [])) (sym busy) (makes_nothing k now o) in
+      subst (λ (b : Bool). Make now now o o (if b then (if may_win s v then leads_on s v else hands_over s v) else [])) (sym busy) (makes_nothing k now o) in
       queued_whole old now o o o conn request tasks refl tasks_is rest

@@ -11,7 +11,7 @@ use Rattle.policy_model.specs.Events.{Item, Notes, LeaderChecked}
 use Rattle.policy_model.specs.Parts.{leader_ticked}
 use Rattle.policy_model.specs.Views.{View}
 use Rattle.policy_model.specs.Moves.{moved}
-use Rattle.policy_model.specs.Doing.{is_leader, then_rule, becomes_follower}
+use Rattle.policy_model.specs.Doing.{is_leader, follows_node, then_rule, becomes_follower}
 use Rattle.policy_model.specs.Checks.{does_check, checks_leader, answers_leader, follows_checker}
 use Rattle.coordinator.specs.Showing.{Shown}
 use Rattle.coordinator.specs.Views.{view_in}
@@ -65,21 +65,33 @@ module _ {K : Type 0} (k : Ghosts K) where
       record { goes = record { settings = refl; clock = refl; view = ap (λ (x : Option LeaderCheck). record v { leader_check = x }) (c_is ∙ both.1); core = refl }; shown = refl } in
       makes_as k old (record old { leader_check = c }) o o _ _ nothing both.0
 
-  -- a leader answers no
-  pub checker_refused : (old : Coordinator K) (o o1 : Shown) (p : Id) → is_leader old.mode ≡ true → Make old old o o1 (answers_leader old.settings (view old) p false)
+  -- in the second profile a check changes no mode
+  pub checker_answered : (old : Coordinator K) (o o1 : Shown) (p : Id) (good : Bool) → old.settings.policy.second ≡ true → good ≡ follows_node old.mode p → Make old old o o1 (answers_leader old.settings (view old) p good)
       → Make old old o o1 (follows_checker old.settings (view old) p)
-  checker_refused old o o1 p leads answers =
+  checker_answered old o o1 p good second good_is answers =
       let s = old.settings in
       let v = view old in
       makes_as k old old o o1 _ _ answers
-      (ap (λ (b : Bool). if b then answers_leader s v p false else then_rule s v (becomes_follower s v p) (λ u. answers_leader s u p true)) (sym leads))
+      (ap (λ (b : Bool). answers_leader s v p b) good_is
+      ∙ ap (λ (b : Bool). if b then answers_leader s v p (follows_node v.mode p) else if is_leader v.mode then answers_leader s v p false else then_rule s v (becomes_follower s v p) (λ u. answers_leader s u p true)) (sym second))
+
+  -- a leader answers no
+  pub checker_refused : (old : Coordinator K) (o o1 : Shown) (p : Id) → old.settings.policy.second ≡ false → is_leader old.mode ≡ true → Make old old o o1 (answers_leader old.settings (view old) p false)
+      → Make old old o o1 (follows_checker old.settings (view old) p)
+  checker_refused old o o1 p first leads answers =
+      let s = old.settings in
+      let v = view old in
+      makes_as k old old o o1 _ _ answers
+      (ap (λ (b : Bool). if b then answers_leader s v p false else then_rule s v (becomes_follower s v p) (λ u. answers_leader s u p true)) (sym leads)
+      ∙ ap (λ (b : Bool). if b then answers_leader s v p (follows_node v.mode p) else if is_leader v.mode then answers_leader s v p false else then_rule s v (becomes_follower s v p) (λ u. answers_leader s u p true)) (sym first))
 
   -- another node follows, and answers yes
-  pub checker_followed : (old mid : Coordinator K) (o o1 o2 : Shown) (p : Id) → is_leader old.mode ≡ false → Make old mid o o1 (becomes_follower old.settings (view old) p)
+  pub checker_followed : (old mid : Coordinator K) (o o1 o2 : Shown) (p : Id) → old.settings.policy.second ≡ false → is_leader old.mode ≡ false → Make old mid o o1 (becomes_follower old.settings (view old) p)
       → Make mid mid o1 o2 (answers_leader mid.settings (view mid) p true)
       → Make old mid o o2 (follows_checker old.settings (view old) p)
-  checker_followed old mid o o1 o2 p leads follows answers =
+  checker_followed old mid o o1 o2 p first leads follows answers =
       let s = old.settings in
       let v = view old in
       makes_as k old mid o o2 _ _ (ends_rule k old mid mid o o1 o2 (becomes_follower s v p) (λ s u. answers_leader s u p true) true follows answers)
-      (ap (λ (b : Bool). if b then answers_leader s v p false else then_rule s v (becomes_follower s v p) (λ u. answers_leader s u p true)) (sym leads))
+      (ap (λ (b : Bool). if b then answers_leader s v p false else then_rule s v (becomes_follower s v p) (λ u. answers_leader s u p true)) (sym leads)
+      ∙ ap (λ (b : Bool). if b then answers_leader s v p (follows_node v.mode p) else if is_leader v.mode then answers_leader s v p false else then_rule s v (becomes_follower s v p) (λ u. answers_leader s u p true)) (sym first))

@@ -54,20 +54,20 @@ commit_planned s v c plan t l is =
     let u = after_act s v (Commit c) in
     let committed = committed_after v.node c (reply_now s v (Commit c)) t in
     subst (λ (w : View). IsPlanned s w plan) (sym (moved-acks s u))
-    (has_planned s (moved s u (Notes ExclusionsAcked)) (leader_of s.me v.node.term v.node.accepted v.node.accepted.config v.node.join_votes s.shrink)
+    (has_planned s (moved s u (Notes ExclusionsAcked)) (leader_of s.me v.node.term v.node.accepted v.node.accepted.config v.node.join_votes s.policy)
     (without_answered (exclusion_done v.node.accepted.config (id_of v.node.accepted)) v.tasks) plan (is l)
-    (ap (λ (x : List Id). leader_of s.me v.node.term v.node.accepted x v.node.join_votes s.shrink) (sym committed))
+    (ap (λ (x : List Id). leader_of s.me v.node.term v.node.accepted x v.node.join_votes s.policy) (sym committed))
     (ap (λ (x : List Id). without_answered (exclusion_done x (id_of v.node.accepted)) v.tasks) (sym committed)))
 
 pub committed_plan : (s : Settings) (v : View) (plan : Option Plan) (term : ℕ) (committed votes : List Id) (tasks : Tasks) → term ≡ v.node.term → committed ≡ v.node.accepted.config → votes ≡ v.node.join_votes
-    → tasks ≡ without_answered (exclusion_done committed (id_of v.node.accepted)) v.tasks → HasPlan (leader_of s.me term v.node.accepted committed votes s.shrink) tasks plan → IsPlannedCommit s v plan
+    → tasks ≡ without_answered (exclusion_done committed (id_of v.node.accepted)) v.tasks → HasPlan (leader_of s.me term v.node.accepted committed votes s.policy) tasks plan → IsPlannedCommit s v plan
 committed_plan s v plan term committed votes tasks term_is committed_is votes_is tasks_is has =
     let accepted = v.node.accepted in
     let left = λ (ids : List Id). without_answered (exclusion_done ids (id_of accepted)) v.tasks in
-    λ l. subst (λ (x : List Id). HasPlan (leader_of s.me v.node.term accepted x v.node.join_votes s.shrink) (left x) plan) committed_is
-    (subst (λ (x : List Id). HasPlan (leader_of s.me v.node.term accepted committed x s.shrink) (left committed) plan) votes_is
-    (subst (λ (x : ℕ). HasPlan (leader_of s.me x accepted committed votes s.shrink) (left committed) plan) term_is
-    (subst (λ (t : Tasks). HasPlan (leader_of s.me term accepted committed votes s.shrink) t plan) tasks_is has)))
+    λ l. subst (λ (x : List Id). HasPlan (leader_of s.me v.node.term accepted x v.node.join_votes s.policy) (left x) plan) committed_is
+    (subst (λ (x : List Id). HasPlan (leader_of s.me v.node.term accepted committed x s.policy) (left committed) plan) votes_is
+    (subst (λ (x : ℕ). HasPlan (leader_of s.me x accepted committed votes s.policy) (left committed) plan) term_is
+    (subst (λ (t : Tasks). HasPlan (leader_of s.me term accepted committed votes s.policy) t plan) tasks_is has)))
 
 module _ {K : Type 0} (k : Ghosts K) where
   abbrev view : Coordinator K → View

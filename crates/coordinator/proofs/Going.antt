@@ -23,8 +23,8 @@ use Rattle.policy_model.specs.Events.{Item, Notes, StateMade}
 use Rattle.policy_model.specs.Views.{View}
 use Rattle.policy_model.specs.Parts.{as_master}
 use Rattle.policy_model.specs.Moves.{moved}
-use Rattle.policy_model.specs.Doing.{is_voting_only, send_all, reply_all, act_now, after_act, takes, becomes_candidate}
-use Rattle.policy_model.specs.NextState.{targets_of, responders_of, successor_of, asks_successor, value_now, config_now, value_act, state_now, publishes, makes_state}
+use Rattle.policy_model.specs.Doing.{is_leader, is_voting_only, may_win, send_all, reply_all, act_now, after_act, takes, becomes_candidate}
+use Rattle.policy_model.specs.NextState.{is_in_flight, targets_of, responders_of, successor_of, asks_successor, asks_votes, wants_votes, leads_on, hands_over, goes_on, value_now, config_now, value_act, state_now, publishes, makes_state}
 use Rattle.coord_state.specs.StandsFor.{request_of}
 use Rattle.coordinator.specs.Plans.{IsPlan, IsNewOr, IsNewState, state_by, frame_to}
 use Rattle.coordinator.specs.Showing.{Shown}
@@ -143,37 +143,76 @@ module _ {K : Type 0} (k : Ghosts K) where
       ∙ ap (λ (t : Tasks). answers ++ Notes StateMade ∷ publishes s v (record v { tasks = t })) left
       ∙ ap (λ (b : Bool). answers ++ Notes StateMade ∷ (if b then [] else publishes s v (moved s v (Notes StateMade)))) (sym parts.0))
 
-  -- the successor is asked
-  pub asks_found : (c : Coordinator K) (o o1 : Shown) (id : Id) (term : ℕ) (p : Publication) (found : Option Id) (committed responders targets : List Id) → c.publication ≡ Some p
-      → found ≡ find (λ (x : Id). not (is_voting_only c.settings x) && has x committed) responders → committed ≡ (view c).node.committed → responders ≡ p.responders → found ≡ Some id
+  -- all members are asked to vote for a node
+  pub asks_found : (c : Coordinator K) (o o1 : Shown) (id : Id) (term : ℕ) (p : Publication) (targets : List Id) → c.publication ≡ Some p
       → term ≡ (view c).node.term + 1 → term ≤ last_number → targets ≡ p.targets
       → o1 ≡ record o { frames = o.frames ++ map (λ (to : Id). frame_to c.settings.me (message.StartJoin id term) to) targets }
-      → Make c c o o1 (asks_successor c.settings (view c) (successor_of c.settings (view c)))
-  asks_found c o o1 id term p found committed responders targets published found_is committed_is responders_is some term_is small targets_is shown =
+      → Make c c o o1 (asks_successor c.settings (view c) (Some id))
+  asks_found c o o1 id term p targets published term_is small targets_is shown =
       let s = c.settings in
       let v = view c in
       let all : Make c c o o1 (send_all s targets (message.StartJoin id term)) =
       subst (λ (x : Shown). Make c c o x (send_all s targets (message.StartJoin id term))) (sym shown) (makes_sends k c o targets (message.StartJoin id term)) in
       let targets_here : targets ≡ targets_of v.publication = targets_is ∙ ap (λ (x : Option Publication). targets_of x) (sym published) in
       let le : nat_le (v.node.term + 1) last_number ≡ true = rw (← term_is) (le-leb term last_number small) in
-      let here : Some id ≡ successor_of s v =
-      sym some ∙ found_is ∙ ap (λ (x : List Id). find (λ (y : Id). not (is_voting_only s y) && has y x) responders) committed_is ∙ ap (λ (x : List Id). find (λ (y : Id). not (is_voting_only s y) && has y v.node.committed) x) (responders_is ∙ ap (λ (x : Option Publication). responders_of x) (sym published)) in
       makes_as k c c o o1 _ _ all
       (ap (λ (x : List Id). send_all s x (message.StartJoin id term)) targets_here
       ∙ ap (λ (n : ℕ). send_all s (targets_of v.publication) (message.StartJoin id n)) term_is
-      ∙ ap (λ (b : Bool). if b then send_all s (targets_of v.publication) (message.StartJoin id (v.node.term + 1)) else []) (sym le)
-      ∙ ap (λ (x : Option Id). asks_successor s v x) here)
+      ∙ ap (λ (b : Bool). if b then send_all s (targets_of v.publication) (message.StartJoin id (v.node.term + 1)) else []) (sym le))
 
-  -- no term is left in which it could be asked
-  pub asks_late : (c : Coordinator K) (o : Shown) (id : Id) (term : ℕ) (p : Publication) (found : Option Id) (committed responders : List Id) → c.publication ≡ Some p
-      → found ≡ find (λ (x : Id). not (is_voting_only c.settings x) && has x committed) responders → committed ≡ (view c).node.committed → responders ≡ p.responders → found ≡ Some id
-      → term ≡ (view c).node.term + 1 → last_number < term → Make c c o o (asks_successor c.settings (view c) (successor_of c.settings (view c)))
-  asks_late c o id term p found committed responders published found_is committed_is responders_is some term_is late =
+  -- no term is left in which they could be asked
+  pub asks_late : (c : Coordinator K) (o : Shown) (id : Id) (term : ℕ)
+      → term ≡ (view c).node.term + 1 → last_number < term → Make c c o o (asks_successor c.settings (view c) (Some id))
+  asks_late c o id term term_is late =
       let s = c.settings in
       let v = view c in
       let above : nat_le (v.node.term + 1) last_number ≡ false = rw (← term_is) (grind (arith, nat_tests, late)) in
+      makes_as k c c o o _ _ (makes_nothing k c o)
+      (ap (λ (b : Bool). if b then send_all s (targets_of v.publication) (message.StartJoin id (v.node.term + 1)) else []) (sym above))
+
+  -- nobody is a member of a state that was not published
+  pub asks_nobody : (c : Coordinator K) (o : Shown) (id : Id) → c.publication ≡ None → Make c c o o (asks_successor c.settings (view c) (Some id))
+  asks_nobody c o id none =
+      let s = c.settings in
+      let v = view c in
+      let each : (b : Bool) → [] ≡ (if b then send_all s (targets_of None) (message.StartJoin id (v.node.term + 1)) else []) = λ b. asked_none s v id b in
+      makes_as k c c o o _ _ (makes_nothing k c o)
+      (each (nat_le (v.node.term + 1) last_number)
+      ∙ ap (λ (x : Option Publication). if nat_le (v.node.term + 1) last_number then send_all s (targets_of x) (message.StartJoin id (v.node.term + 1)) else []) (sym none))
+    where
+      asked_none : (s : Settings) (v : View) (id : Id) (b : Bool) → [] ≡ (if b then send_all s (targets_of None) (message.StartJoin id (v.node.term + 1)) else [])
+      asked_none s v id true = refl
+      asked_none s v id false = refl
+
+  -- who is found among the responders is asked
+  pub asks_as : (c : Coordinator K) (o o1 : Shown) (id : Id) (p : Publication) (found : Option Id) (committed responders : List Id) → c.publication ≡ Some p
+      → found ≡ find (λ (x : Id). not (is_voting_only c.settings x) && has x committed) responders → committed ≡ (view c).node.committed → responders ≡ p.responders → found ≡ Some id
+      → Make c c o o1 (asks_successor c.settings (view c) (Some id))
+      → Make c c o o1 (asks_successor c.settings (view c) (successor_of c.settings (view c)))
+  asks_as c o o1 id p found committed responders published found_is committed_is responders_is some all =
+      let s = c.settings in
+      let v = view c in
       let here : Some id ≡ successor_of s v =
       sym some ∙ found_is ∙ ap (λ (x : List Id). find (λ (y : Id). not (is_voting_only s y) && has y x) responders) committed_is ∙ ap (λ (x : List Id). find (λ (y : Id). not (is_voting_only s y) && has y v.node.committed) x) (responders_is ∙ ap (λ (x : Option Publication). responders_of x) (sym published)) in
-      makes_as k c c o o _ _ (makes_nothing k c o)
-      (ap (λ (b : Bool). if b then send_all s (targets_of v.publication) (message.StartJoin id (v.node.term + 1)) else []) (sym above)
-      ∙ ap (λ (x : Option Id). asks_successor s v x) here)
+      makes_as k c c o o1 _ _ all (ap (λ (x : Option Id). asks_successor s v x) here)
+
+  -- a leader that may win goes on without asking for votes, or asks for them
+  pub goes_made : (c new : Coordinator K) (o o1 : Shown) → is_leader c.mode && not (is_in_flight c.publication) ≡ true → may_win c.settings (view c) ≡ true → wants_votes c.settings (view c) ≡ false
+      → Make c new o o1 (makes_state c.settings (view c)) → Make c new o o1 (goes_on c.settings (view c))
+  goes_made c new o o1 free wins wants all =
+      let s = c.settings in
+      let v = view c in
+      makes_as k c new o o1 _ _ all
+      (ap (λ (b : Bool). if b then asks_votes s v else makes_state s v) (sym wants)
+      ∙ ap (λ (b : Bool). if b then leads_on s v else hands_over s v) (sym wins)
+      ∙ ap (λ (b : Bool). if b then (if may_win s v then leads_on s v else hands_over s v) else []) (sym free))
+
+  pub goes_asking : (c new : Coordinator K) (o o1 : Shown) → is_leader c.mode && not (is_in_flight c.publication) ≡ true → may_win c.settings (view c) ≡ true → wants_votes c.settings (view c) ≡ true
+      → Make c new o o1 (asks_votes c.settings (view c)) → Make c new o o1 (goes_on c.settings (view c))
+  goes_asking c new o o1 free wins wants all =
+      let s = c.settings in
+      let v = view c in
+      makes_as k c new o o1 _ _ all
+      (ap (λ (b : Bool). if b then asks_votes s v else makes_state s v) (sym wants)
+      ∙ ap (λ (b : Bool). if b then leads_on s v else hands_over s v) (sym wins)
+      ∙ ap (λ (b : Bool). if b then (if may_win s v then leads_on s v else hands_over s v) else []) (sym free))

@@ -13,7 +13,7 @@ use Rattle.policy_model.specs.Events.{Item, Drops, Notes, PeerLost, LeaderLost}
 use Rattle.policy_model.specs.Views.{View}
 use Rattle.policy_model.specs.Moves.{moved_all}
 use Rattle.policy_model.specs.Doing.{then_rule, becomes_candidate}
-use Rattle.policy_model.specs.Disconnects.{drops_follower, goes_on_with_rest, loses_follower, loses_leader, loses_peer, rank_of}
+use Rattle.policy_model.specs.Disconnects.{drops_follower, goes_on_with_rest, loses_follower, loses_leader, loses_peer}
 use Rattle.coordinator.specs.Ahead.{HasPlan}
 use Rattle.coordinator.specs.Plans.{IsPlanned}
 use Rattle.coordinator.specs.Showing.{Shown}
@@ -27,9 +27,9 @@ use Rattle.coordinator.proofs.Composing.{ends_rule, makes_then}
 use Rattle.coordinator.proofs.Foreseen.{has_planned}
 
 pub planned_loss : (s : Settings) (v : View) (p : Id) (plan : Option Plan) (copy tasks : Tasks) → copy ≡ v.tasks → tasks ≡ to_be_removed copy p
-    → HasPlan (leader_of s.me v.node.term v.node.accepted v.node.committed v.node.join_votes s.shrink) tasks plan → IsPlanned s (moved_all s v (drops_follower s p)) plan
+    → HasPlan (leader_of s.me v.node.term v.node.accepted v.node.committed v.node.join_votes s.policy) tasks plan → IsPlanned s (moved_all s v (drops_follower s p)) plan
 planned_loss s v p plan copy tasks copy_is tasks_is has_it =
-    has_planned s (moved_all s v (drops_follower s p)) (leader_of s.me v.node.term v.node.accepted v.node.committed v.node.join_votes s.shrink) tasks plan has_it refl
+    has_planned s (moved_all s v (drops_follower s p)) (leader_of s.me v.node.term v.node.accepted v.node.committed v.node.join_votes s.policy) tasks plan has_it refl
     (tasks_is ∙ ap (λ (t : Tasks). to_be_removed t p) copy_is)
 
 module _ {K : Type 0} (k : Ghosts K) where
@@ -68,13 +68,12 @@ module _ {K : Type 0} (k : Ghosts K) where
       subst (λ (x : Shown). Make old new x o2 (loses_follower s (view old) p)) same
       (makes_as k old new o0 o2 _ _ all (ap (λ (b : Bool). if b then then_rule s (view old) (drops_follower s p) (goes_on_with_rest s) else []) (sym watched)))
 
-  -- a follower becomes a candidate, and notes its rank
-  pub leader_lost : (old mid new : Coordinator K) (o o0 o1 : Shown) (p : Id) (rank : ℕ) → o0 ≡ o → rank ≡ rank_of old.settings (view old) p
-      → Make old mid o0 o1 (becomes_candidate old.settings (view old)) → Make mid new o1 o1 (Notes (LeaderLost rank) ∷ [])
-      → Make old new o o1 (loses_leader old.settings (view old) p)
-  leader_lost old mid new o o0 o1 p rank same rank_is first second =
+  -- a follower becomes a candidate, and notes its loss
+  pub leader_lost : (old mid new : Coordinator K) (o o0 o1 : Shown) → o0 ≡ o
+      → Make old mid o0 o1 (becomes_candidate old.settings (view old)) → Make mid new o1 o1 (Notes LeaderLost ∷ [])
+      → Make old new o o1 (loses_leader old.settings (view old))
+  leader_lost old mid new o o0 o1 same first second =
       let s = old.settings in
       let v = view old in
-      let all = makes_then k old mid new o0 o1 o1 (becomes_candidate s v) (Notes (LeaderLost rank) ∷ []) first second in
-      subst (λ (x : Shown). Make old new x o1 (loses_leader s v p)) same
-      (makes_as k old new o0 o1 _ _ all (ap (λ (n : ℕ). becomes_candidate s v ++ Notes (LeaderLost n) ∷ []) rank_is))
+      subst (λ (x : Shown). Make old new x o1 (loses_leader s v)) same
+      (makes_then k old mid new o0 o1 o1 (becomes_candidate s v) (Notes LeaderLost ∷ []) first second)

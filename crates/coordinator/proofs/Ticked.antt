@@ -38,7 +38,7 @@ use Rattle.coordinator.specs.Does.{Makes}
 use Rattle.coordinator.specs.declared.coordinator.Coordinator.{Coordinator}
 use Rattle.policy_model.specs.Doing.{then_rule, becomes_candidate}
 use Rattle.policy_model.specs.NextState.{goes_on}
-use Rattle.policy_model.specs.Rules.{has_timed_out, ticks_leader}
+use Rattle.policy_model.specs.Rules.{gives_up, ticks_leader}
 use Rattle.coordinator.proofs.Composing.{makes_then, ends_rule}
 use Rattle.coordinator.proofs.Becoming.{makes_as}
 use Rattle.coordinator.proofs.Quiet.{makes_replies, makes_sends, makes_note}
@@ -78,7 +78,7 @@ tick_planned s v plan is =
     moved_all-append s v (times_out_exclusions s v) (checks_followers s (moved_all s v (times_out_exclusions s v)))
     ∙ ap (λ (x : View). moved_all s x (checks_followers s x)) (moved-times s v) ∙ moved-checks s u in
     subst (λ (w : View). IsPlanned s w plan) (sym here)
-    (has_planned s (record u { tasks = tasks_ticked v; followers = followers_ticked u.followers u.moment }) (leader_of s.me v.node.term v.node.accepted v.node.committed v.node.join_votes s.shrink) (tasks_ticked v) plan is refl refl)
+    (has_planned s (record u { tasks = tasks_ticked v; followers = followers_ticked u.followers u.moment }) (leader_of s.me v.node.term v.node.accepted v.node.committed v.node.join_votes s.policy) (tasks_ticked v) plan is refl refl)
 
 no_items : {A : Type 0} (xs : List A) → length xs ≡ 0 → xs ≡ []
 no_items [] h = refl
@@ -98,9 +98,9 @@ tasks_kept v none all =
 
 pub planned_tick : (s : Settings) (v : View) (plan : Option Plan) (t3 t2 t1 copy : Tasks) (checks lag committed : List Id) (fs : Followers) → t3 ≡ all_removed t2 lag → t2 ≡ all_removed t1 checks → t1 ≡ without_answered (timed_out committed v.moment) copy → copy ≡ v.tasks
     → committed ≡ v.node.committed → checks ≡ to_drop_for_checks fs.watched v.moment → lag ≡ to_drop_for_lag fs.watched v.moment → fs ≡ v.followers
-    → HasPlan (leader_of s.me v.node.term v.node.accepted v.node.committed v.node.join_votes s.shrink) t3 plan → IsPlannedTick s v plan
+    → HasPlan (leader_of s.me v.node.term v.node.accepted v.node.committed v.node.join_votes s.policy) t3 plan → IsPlannedTick s v plan
 planned_tick s v plan t3 t2 t1 copy checks lag committed fs t3_is t2_is t1_is copy_is committed_is checks_are lag_is fs_are has =
-    subst (λ (t : Tasks). HasPlan (leader_of s.me v.node.term v.node.accepted v.node.committed v.node.join_votes s.shrink) t plan)
+    subst (λ (t : Tasks). HasPlan (leader_of s.me v.node.term v.node.accepted v.node.committed v.node.join_votes s.policy) t plan)
     (t3_is ∙ ap (λ (t : Tasks). all_removed t lag) (t2_is ∙ ap (λ (t : Tasks). all_removed t checks) (t1_is ∙ ap (λ (c : List Id). without_answered (timed_out c v.moment) copy) committed_is ∙ ap (λ (t : Tasks). without_answered (timed_out v.node.committed v.moment) t) copy_is))
     ∙ ap (λ (x : List Id). all_removed (all_removed (without_answered (timed_out v.node.committed v.moment) v.tasks) x) lag) (checks_are ∙ ap (λ (f : Followers). to_drop_for_checks f.watched v.moment) fs_are)
     ∙ ap (λ (x : List Id). all_removed (all_removed (without_answered (timed_out v.node.committed v.moment) v.tasks) (to_drop_for_checks v.followers.watched v.moment)) x) (lag_is ∙ ap (λ (f : Followers). to_drop_for_lag f.watched v.moment) fs_are))
@@ -179,7 +179,7 @@ module _ {K : Type 0} (k : Ghosts K) where
       let same : o ≡ record o { drops = o.drops ++ [] } = ap (λ (l : List MemberDrop). record o { drops = l }) (sym (append-nil o.drops)) in
       checks_made old followers old.tasks old.tasks o o o o1 [] [] ask term (sym nobody.0) (sym nobody.1) ask_is term_is followers_are refl refl same same o1_is
 
-  pub ticks_gone : (old mid new : Coordinator K) (o o0 o1 o2 : Shown) → o0 ≡ o → has_timed_out old.publication old.moment ≡ false → Make old mid o0 o1 (ticks_members old.settings (view old)) → Make mid new o1 o2 (goes_on mid.settings (view mid))
+  pub ticks_gone : (old mid new : Coordinator K) (o o0 o1 o2 : Shown) → o0 ≡ o → gives_up old.settings (view old) ≡ false → Make old mid o0 o1 (ticks_members old.settings (view old)) → Make mid new o1 o2 (goes_on mid.settings (view mid))
       → Make old new o o2 (ticks_leader old.settings (view old))
   ticks_gone old mid new o o0 o1 o2 same late members next =
       let s = old.settings in

@@ -20,7 +20,7 @@ module _ {K : Type 0} (k : Ghosts K) where
     moment = c.moment;
     finder = c.finder;
     deadline = c.deadline;
-    election_rank = c.election_rank;
+    lost_leader = c.lost_leader;
     attempt = c.attempt;
     round = c.round;
     publication = c.publication;

@@ -1,7 +1,7 @@
 //! The acts of the core, each with its entry.
-ghost use Rattle.std.specs.Prelude.{◌≡◌, ◌≤◌, ◌<◌, [], ◌∷◌, true, None, Some, IfOk, is_ok, if◌then◌else◌};
+ghost use Rattle.std.specs.Prelude.{◌≡◌, ◌≤◌, ◌<◌, [], ◌∷◌, true, false, None, Some, IfOk, is_ok, if◌then◌else◌};
 ghost use Rattle.cluster_state.specs.Initial.{initial_state};
-ghost use Rattle.policy_model.specs.Parts.{next_attempt as next_attempt_of, published_at, watched, finished, state_finished, responded};
+ghost use Rattle.policy_model.specs.Parts.{published_at, watched, finished, state_finished, responded};
 ghost use Rattle.world_model.specs.declared.acts.Act.TheVariants as act;
 ghost use Rattle.policy_model.specs.Doing.{act_now, reply_now, takes};
 ghost use Rattle.voting_config.specs.Ids.{has_room as has_room_of};
@@ -14,7 +14,6 @@ ghost use Rattle.coordinator.specs.Rooms.{Uses};
 ghost use Rattle.coordinator.specs.Views.{view_in, IsReady};
 
 use crate::coordinator::{Coordinator, DiskFailed};
-use crate::elections::next_attempt;
 use crate::outcomes::{has_sent, has_won, verdict, was_taken};
 use crate::output::Output;
 use crate::plan::FirstState;
@@ -60,11 +59,11 @@ impl<K: Keeper> Coordinator<K> {
         verdict
     }
 
-    // Whether it stands in line, and joins another by this.
+    // Whether it has lost its leader, and joins another by this.
     fn yields(&self, candidate: NodeId, outcome: &Outcome) -> bool
-        ensures { result ≡ yields_of self.now.settings self.now.election_rank candidate outcome.now }
+        ensures { result ≡ yields_of self.now.settings self.now.lost_leader candidate outcome.now }
     {
-        was_taken(outcome) && 0 < self.election_rank && candidate != self.settings.me
+        was_taken(outcome) && self.lost_leader && candidate != self.settings.me
     }
 
     // Starts a join for a candidate in a term. Answers whether that was taken.
@@ -86,7 +85,6 @@ impl<K: Keeper> Coordinator<K> {
         let verdict = verdict(&outcome);
         wait_anew(
             self.yields(candidate, &outcome),
-            &mut self.election_rank,
             &mut self.deadline,
             &mut self.round,
         );
@@ -222,7 +220,7 @@ impl<K: Keeper> Coordinator<K> {
             &mut self.applied,
             &mut self.publication,
             &mut self.followers,
-            &mut self.election_rank,
+            &mut self.lost_leader,
             accepted,
             self.moment,
         );
@@ -268,40 +266,37 @@ fn count_response(taken: bool, commits: bool, publication: &mut Option<Publicati
     }
 }
 
-// A node in line that joins another waits anew, one place later.
-fn wait_anew(yields: bool, rank: &mut u32, deadline: &mut Option<u64>, round: &mut Option<PreVotes>)
-    ensures rank { rank.new ≡ (if yields then next_attempt_of rank.old else rank.old) }
+// A node that has lost its leader and joins another ends its round, and waits anew.
+fn wait_anew(yields: bool, deadline: &mut Option<u64>, round: &mut Option<PreVotes>)
     ensures deadline { deadline.new ≡ (if yields then None else deadline.old) }
     ensures round { round.new ≡ (if yields then None else round.old) }
 {
     if yields {
-        *rank = next_attempt(*rank);
         *deadline = None;
         *round = None;
     }
 }
 
-// Where a commit is taken, its state is applied, the node stands in no line any more, and the publication is finished, unless it
-// was before.
+// Where a commit is taken, its state is applied, the node has a leader again, and the publication is finished, unless it was before.
 fn finish(
     taken: bool,
     applied: &mut StateId,
     publication: &mut Option<Publication>,
     followers: &mut FollowerChecks,
-    rank: &mut u32,
+    lost_leader: &mut bool,
     id: StateId,
     now: u64,
 )
     ensures applied { applied.new ≡ (if taken then id else applied.old) }
     ensures publication { publication.new ≡ (if taken then finished publication.old else publication.old) }
     ensures followers { followers.new ≡ (if taken then state_finished publication.old followers.old id now else followers.old) }
-    ensures rank { rank.new ≡ (if taken then 0 else rank.old) }
+    ensures lost { lost_leader.new ≡ (if taken then false else lost_leader.old) }
 {
     if !taken {
         return;
     }
     *applied = id;
-    *rank = 0;
+    *lost_leader = false;
     match publication {
         None => {}
         Some(publication) => {

@@ -87,12 +87,12 @@ impl<K: Keeper> Coordinator<K> {
     ) -> Result<Option<Plan>, AllocError>
         ensures { IfOk result
             (λ plan. HasPlan (leader_of self.now.settings.me term (K.record_of self.now.core.keeper).accepted
-            committed.now votes.now self.now.settings.shrink) tasks.now plan) }
+            committed.now votes.now self.now.settings.policy) tasks.now plan) }
     {
         let plan = plan_state(
             alloc,
             self.settings.me,
-            self.settings.shrink,
+            self.settings.policy,
             tasks,
             term,
             &self.core.kept().accepted,
@@ -112,7 +112,7 @@ impl<K: Keeper> Coordinator<K> {
     ) -> Result<Option<Plan>, AllocError>
         ensures { IfOk result
             (λ plan. HasPlan (leader_of self.now.settings.me term (K.record_of self.now.core.keeper).accepted
-            (K.record_of self.now.core.keeper).committed votes.now self.now.settings.shrink) tasks.now plan) }
+            (K.record_of self.now.core.keeper).committed votes.now self.now.settings.policy) tasks.now plan) }
     {
         self.plan_over(alloc, term, self.core.committed(), tasks, votes)
     }

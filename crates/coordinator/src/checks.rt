@@ -106,6 +106,10 @@ impl<K: Keeper> Coordinator<K> {
         ensures does { Does K.Keeper self.old self.new out.old out.new (λ s v. follows_checker s v leader) true }
         ensures uses { Uses out.old out.new 2 1 (length self.old.tasks.waiting) }
     {
+        if self.settings.policy.second {
+            self.answer_leader(out, leader, follows(self.mode, leader));
+            return;
+        }
         if self.is_leader() {
             self.answer_leader(out, leader, false);
             return;

@@ -1,13 +1,13 @@
 //! How a candidate comes to be elected: the first configuration, and the wait for an election.
-ghost use Rattle.std.specs.Prelude.{◌≡◌, ◌≤◌, ◌+◌, not, ◌&&◌, [], ◌∷◌, true, is_ok, IfOk};
+ghost use Rattle.std.specs.Prelude.{◌≡◌, ◌≤◌, ◌+◌, ◌*◌, not, ◌&&◌, [], ◌∷◌, true, length, filter, is_ok, IfOk};
 ghost use Rattle.voting_config.specs.Ids.{without_id};
 ghost use Rattle.world_model.specs.Replies.{elects as elects_of};
 ghost use Rattle.policy_model.specs.Doing.{is_voting_only as is_voting_only_of, may_win as may_win_of, then_rule};
 ghost use Rattle.policy_model.specs.Discovery.{asks_peers};
 ghost use Rattle.policy_model.specs.Rules.{ticks_candidate};
 ghost use Rattle.policy_model.specs.Events.{Notes, RoundBegun};
-ghost use Rattle.policy_model.specs.Elections.{bootstraps, stands_for_election, free_nodes as free_nodes_of, begins_round, waits_until, waits_for_election};
-ghost use Rattle.policy_model.specs.Parts.{next_attempt as next_attempt_of, round_begun};
+ghost use Rattle.policy_model.specs.Elections.{bootstraps, comes_first as comes_first_of, election_rank as election_rank_of, stands_for_election, free_nodes as free_nodes_of, begins_round, waits_until, waits_for_election};
+ghost use Rattle.policy_model.specs.Parts.{election_duration, next_attempt as next_attempt_of, round_begun};
 ghost use Rattle.coordinator.specs.Asks.{ArePlannedAsks};
 ghost use Rattle.coordinator.specs.Bootstraps.{IsPlannedFirst};
 ghost use Rattle.coordinator.specs.Does.{Does};
@@ -240,6 +240,45 @@ impl<K: Keeper> Coordinator<K> {
         self.stand_alone(out);
     }
 
+    // Whether a voter that may lead, is free, and comes before this node.
+    fn comes_first(&self, free: &NodeSet, id: NodeId) -> bool
+        requires free { free.now ≡ free_nodes_of self.now.settings (view_in K.Keeper self.now) }
+        ensures { result ≡ comes_first_of self.now.settings (view_in K.Keeper self.now) id }
+    {
+        id < self.settings.me && free.contains(id) && !self.settings.voting_only.contains(id)
+    }
+
+    // How many such voters there are.
+    fn rank(&self, free: &NodeSet) -> u32
+        requires free { free.now ≡ free_nodes_of self.now.settings (view_in K.Keeper self.now) }
+        ensures { result ≡ length (filter (λ id. comes_first_of self.now.settings (view_in K.Keeper self.now) id) (view_in K.Keeper self.now).node.accepted.config) }
+        ensures few { result ≤ 64 }
+    {
+        let config = &self.core.accepted().config;
+        // For the proof alone: a set has at most `MAX_IDS` ids.
+        let _ = config.len();
+        let voters = config.as_slice();
+        let mut rank = 0u32;
+        for id in voters {
+            if self.comes_first(free, *id) {
+                rank += 1;
+            }
+        }
+        rank
+    }
+
+    // How long the node leaves those that come first, in ms, where it has lost its leader.
+    fn yielded(&self, free: &NodeSet) -> u64
+        requires free { free.now ≡ free_nodes_of self.now.settings (view_in K.Keeper self.now) }
+        ensures { result ≡ election_duration * election_rank_of self.now.settings (view_in K.Keeper self.now) }
+    {
+        if self.lost_leader {
+            DURATION_MS * self.rank(free) as u64
+        } else {
+            0
+        }
+    }
+
     // A deadline is set, or a round begins that was waited for.
     fn wait_until(&mut self, out: &mut Output, free: &NodeSet, word: u64, deadline: Option<u64>)
         requires ready { IsReady self.old }
@@ -251,11 +290,11 @@ impl<K: Keeper> Coordinator<K> {
         match deadline {
             None => {
                 self.attempt = 0;
-                let before = self.election_rank.saturating_sub(1) as u64;
-                self.deadline = Some(self.moment + delay(0, word) + DURATION_MS * before);
+                self.deadline = Some(self.moment + delay(0, word));
             }
             Some(deadline) => {
-                if due(deadline, self.moment) {
+                let yielded = self.yielded(free);
+                if due(deadline, self.moment.saturating_sub(yielded)) {
                     self.begin_round(out, free, word);
                 }
             }

@@ -55,7 +55,7 @@ impl<K: Keeper> Coordinator<K> {
         ensures { IfOk result
             (λ plan. HasPlan (master_of self.now.settings.me (K.record_of self.now.core.keeper).term
             (K.record_of self.now.core.keeper).accepted (K.record_of self.now.core.keeper).committed self.now.core.join_votes
-            self.now.settings.shrink) tasks.now plan) }
+            self.now.settings.policy) tasks.now plan) }
     {
         self.plan_with(alloc, self.core.term(), tasks, self.core.votes())
     }

@@ -1,6 +1,6 @@
 //! What comes of a connection that has ended.
 ghost use Rattle.std.specs.Prelude.{◌≡◌, ◌≤◌, [], ◌∷◌, true, length, IfOk};
-ghost use Rattle.policy_model.specs.Disconnects.{comes_first as comes_first_of, drops_follower, goes_on_with_rest, keeps_quorum as keeps_quorum_of, loses, loses_follower, loses_leader, loses_peer, rank_of};
+ghost use Rattle.policy_model.specs.Disconnects.{drops_follower, goes_on_with_rest, leads_anew, keeps_quorum as keeps_quorum_of, loses, loses_follower, loses_leader, loses_peer};
 ghost use Rattle.policy_model.specs.Events.{LeaderLost, Notes, PeerLost};
 ghost use Rattle.policy_model.specs.Moves.{moved_all};
 ghost use Rattle.coordinator.specs.Does.{Does, DoesAll};
@@ -17,7 +17,7 @@ use std::alloc::{AllocError, Global};
 use voting_config::NodeId;
 
 /// How long after it has lost its leader a node asks its peers, in ms: the others are to have lost it too.
-const LOSS_GRACE_MS: u64 = 50;
+const LOSS_GRACE_MS: u64 = 100;
 
 impl<K: Keeper> Coordinator<K> {
     // What going on will take once p is to be a member no more.
@@ -63,13 +63,30 @@ impl<K: Keeper> Coordinator<K> {
         self.forget_peer(p);
     }
 
-    // Whether the node and the followers that it watches are an election quorum.
+    // Whether the leader may still commit: by those that may respond to a publication in flight, in the second profile, or with the
+    // followers that it watches.
     fn keeps_quorum(&self) -> bool
         ensures { result ≡ keeps_quorum_of self.now.settings (view_in K.Keeper self.now) }
     {
+        if self.settings.policy.second && self.is_in_flight() {
+            return !self.is_hopeless();
+        }
         let mut up = self.followers.watched();
         up.put_if_room(self.settings.me);
         self.elects(&up)
+    }
+
+    // Leads no more, and asks all for their votes.
+    fn lead_anew(&mut self, out: &mut Output)
+        requires ready { IsReady self.old }
+        requires deeds { 2 ≤ out.old.deeds.room }
+        requires frames { to_set ≤ out.old.frames.room }
+        requires waiting { length self.old.tasks.waiting ≤ out.old.replies.room }
+        ensures does { Does K.Keeper self.old self.new out.old out.new leads_anew true }
+    {
+        self.become_candidate(out);
+        let term = self.core.term() + 1;
+        self.stand_for_election(out, term);
     }
 
     // Goes on as planned, or leads no more.
@@ -85,7 +102,7 @@ impl<K: Keeper> Coordinator<K> {
         if self.keeps_quorum() {
             self.go_on(out, plan);
         } else {
-            self.become_candidate(out);
+            self.lead_anew(out);
         }
     }
 
@@ -111,50 +128,25 @@ impl<K: Keeper> Coordinator<K> {
         Ok(())
     }
 
-    // Whether a voter that may lead comes before this node, and is not p.
-    fn comes_first(&self, p: NodeId, id: NodeId) -> bool
-        ensures { result ≡ comes_first_of self.now.settings p id }
-    {
-        id < self.settings.me && id != p && !self.settings.voting_only.contains(id)
-    }
-
-    // The node's place in line, the first being 1.
-    fn rank(&self, p: NodeId) -> u32
-        ensures { result ≡ rank_of self.now.settings (view_in K.Keeper self.now) p }
-    {
-        let config = &self.core.accepted().config;
-        // For the proof alone: a set has at most `MAX_IDS` ids.
-        let _ = config.len();
-        let voters = config.as_slice();
-        let mut rank = 1u32;
-        for id in voters {
-            if self.comes_first(p, *id) {
-                rank += 1;
-            }
-        }
-        rank
-    }
-
-    // The leader was lost, and this is the node's place in line.
-    fn note_loss(&mut self, rank: u32)
-        ensures does { (out : _) → Does K.Keeper self.old self.new out out (λ s v. Notes (LeaderLost rank) ∷ []) true }
+    // The leader was lost, and peers are asked a little later.
+    fn note_loss(&mut self)
+        ensures does { (out : _) → Does K.Keeper self.old self.new out out (λ s v. Notes LeaderLost ∷ []) true }
     {
         self.finder.hold(self.moment, LOSS_GRACE_MS);
-        self.election_rank = rank;
+        self.lost_leader = true;
     }
 
     // A follower has lost its leader.
-    fn lose_leader(&mut self, out: &mut Output, p: NodeId) -> Result<(), EventError>
+    fn lose_leader(&mut self, out: &mut Output) -> Result<(), EventError>
         requires ready { IsReady self.old }
         requires deeds { 1 ≤ out.old.deeds.room }
-        ensures does { DoesAll K.Keeper self.old self.new out.old out.new (λ s v. loses_leader s v p) result }
+        ensures does { DoesAll K.Keeper self.old self.new out.old out.new loses_leader result }
     {
         let Ok(()) = out.make_room(self.tasks.open_count(), &None) else {
             return Err(EventError::Memory);
         };
-        let rank = self.rank(p);
         self.become_candidate(out);
-        self.note_loss(rank);
+        self.note_loss();
         Ok(())
     }
 
@@ -175,7 +167,7 @@ impl<K: Keeper> Coordinator<K> {
             Mode::Leader => self.lose_follower(out, p),
             Mode::Follower(leader) => {
                 if leader == p {
-                    self.lose_leader(out, p)
+                    self.lose_leader(out)
                 } else {
                     Ok(())
                 }

@@ -1,11 +1,11 @@
 //! What a leader does that has no publication in flight.
-ghost use Rattle.std.specs.Prelude.{◌≡◌, ◌≤◌, ◌+◌, ◌^◌, true, false, not, ◌&&◌, length, find, if◌then◌else◌};
+ghost use Rattle.std.specs.Prelude.{◌≡◌, ◌≤◌, ◌+◌, ◌^◌, Some, true, false, not, ◌&&◌, length, find, if◌then◌else◌};
 ghost use Rattle.voting_config.specs.Ids.{has};
 ghost use Rattle.master_tasks.specs.NextState.{next_answers};
 ghost use Rattle.policy_model.specs.Views.{View};
 ghost use Rattle.policy_model.specs.Parts.{as_master};
 ghost use Rattle.policy_model.specs.Doing.{is_leader, may_win as may_win_of};
-ghost use Rattle.policy_model.specs.NextState.{goes_on, makes_state, hands_over, publishes, is_in_flight, asks_successor, successor_of};
+ghost use Rattle.policy_model.specs.NextState.{asks_votes, goes_on, lacks_vote as lacks_vote_of, wants_votes as wants_votes_of, makes_state, hands_over, publishes, is_in_flight, asks_successor, successor_of};
 ghost use Rattle.coord_state.specs.StandsFor.{request_of};
 ghost use Rattle.coordinator.specs.Does.{Does, Ends};
 ghost use Rattle.coordinator.specs.Plans.{IsPlan, IsNewState, IsPlanned, makes_next, replies_planned, state_by};
@@ -37,16 +37,23 @@ fn first_among(ids: &NodeSet, others: &NodeSet, barred: &NodeSet) -> Option<Node
 }
 
 impl<K: Keeper> Coordinator<K> {
+    // Whether a publication is in flight.
+    pub(crate) fn is_in_flight(&self) -> bool
+        ensures { result ≡ is_in_flight self.now.publication }
+    {
+        match &self.publication {
+            None => false,
+            Some(publication) => !publication.is_finished(),
+        }
+    }
+
     // Whether it leads and has no publication in flight.
     pub(crate) fn is_free_leader(&self) -> bool
         ensures { result ≡ (is_leader self.now.mode && not (is_in_flight self.now.publication)) }
     {
         let mode = self.mode;
         match mode {
-            Mode::Leader => match &self.publication {
-                None => true,
-                Some(publication) => publication.is_finished(),
-            },
+            Mode::Leader => !self.is_in_flight(),
             Mode::Candidate | Mode::Follower(_) => false,
         }
     }
@@ -127,6 +134,55 @@ impl<K: Keeper> Coordinator<K> {
         self.ask_successor(out);
     }
 
+    // All members are asked to vote for this node in the next term, where there is one.
+    fn ask_members(&self, out: &mut Output, id: NodeId)
+        requires frames { to_set ≤ out.old.frames.room }
+        ensures { Does K.Keeper self.now self.now out.old out.new (λ s v. asks_successor s v (Some id)) true }
+    {
+        let Some(publication) = &self.publication else {
+            return;
+        };
+        let term = self.core.term() + 1;
+        if term <= LAST_NUMBER {
+            let targets = publication.targets();
+            // For the proof alone: a set has at most `MAX_IDS` ids.
+            let _ = targets.len();
+            let join = Broadcast::StartJoin(id, term);
+            out.send_all(self.settings.me, targets.as_slice(), &join);
+        }
+    }
+
+    // Whether one that responded to the last publication has voted for another node in this term.
+    fn lacks_vote(&self) -> bool
+        ensures { result ≡ lacks_vote_of self.now.settings (view_in K.Keeper self.now) }
+    {
+        let Some(publication) = &self.publication else {
+            return false;
+        };
+        let responders = publication.responders().sources();
+        responders
+            .as_slice()
+            .iter()
+            .any(|id| !self.core.votes().contains(*id))
+    }
+
+    // Whether it asks for votes that it lacks, in the second profile.
+    fn wants_votes(&self) -> bool
+        ensures { result ≡ wants_votes_of self.now.settings (view_in K.Keeper self.now) }
+    {
+        self.settings.policy.second && due(self.handover_due, self.moment) && self.lacks_vote()
+    }
+
+    // All members are asked to vote for this node in the next term.
+    fn ask_votes(&mut self, out: &mut Output)
+        requires ready { IsReady self.old }
+        requires frames { to_set ≤ out.old.frames.room }
+        ensures does { Does K.Keeper self.old self.new out.old out.new asks_votes true }
+    {
+        self.handover_due = self.moment + HANDOVER_INTERVAL_MS;
+        self.ask_members(out, self.settings.me);
+    }
+
     // The least responder that votes and is not voting-only is asked to be elected, where there is one.
     fn ask_successor(&self, out: &mut Output)
         requires frames { to_set ≤ out.old.frames.room }
@@ -143,14 +199,7 @@ impl<K: Keeper> Coordinator<K> {
         ) else {
             return;
         };
-        let term = self.core.term() + 1;
-        if term <= LAST_NUMBER {
-            let targets = publication.targets();
-            // For the proof alone: a set has at most `MAX_IDS` ids.
-            let _ = targets.len();
-            let join = Broadcast::StartJoin(id, term);
-            out.send_all(self.settings.me, targets.as_slice(), &join);
-        }
+        self.ask_members(out, id);
     }
 
     /// Goes on as planned: the plan is taken where it is used.
@@ -167,6 +216,10 @@ impl<K: Keeper> Coordinator<K> {
         }
         if !self.may_win() {
             self.hand_over(out);
+            return;
+        }
+        if self.wants_votes() {
+            self.ask_votes(out);
             return;
         }
         match plan.take() {

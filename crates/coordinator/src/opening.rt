@@ -54,7 +54,7 @@ impl<K: Keeper> Coordinator<K> {
             moment: 0,
             finder: PeerFinder::new(me),
             deadline: None,
-            election_rank: 0,
+            lost_leader: false,
             attempt: 0,
             round: None,
             publication: None,

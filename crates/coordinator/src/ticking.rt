@@ -7,7 +7,9 @@ ghost use Rattle.fault_checks.specs.Followers.{stays, to_ask, to_drop_for_checks
 ghost use Rattle.policy_model.specs.Checks.{checks_followers};
 ghost use Rattle.policy_model.specs.Requests.{times_out_exclusions};
 ghost use Rattle.policy_model.specs.Doing.{becomes_candidate};
-ghost use Rattle.policy_model.specs.Rules.{has_timed_out, is_failed, ticks_leader};
+ghost use Rattle.policy_model.specs.Rules.{gives_up as gives_up_of, has_timed_out, is_failed, ticks_leader};
+ghost use Rattle.policy_model.specs.NextState.{is_hopeless as is_hopeless_of, may_respond};
+ghost use Rattle.world_model.specs.Replies.{commits};
 ghost use Rattle.coordinator.specs.Does.{Does, DoesAll};
 ghost use Rattle.coordinator.specs.Rooms.{Uses, tick_drops, to_set, to_two_sets};
 ghost use Rattle.coordinator.specs.Showing.{shown_in};
@@ -21,7 +23,7 @@ use crate::sending::Broadcast;
 use fault_checks::Checked;
 use master_tasks::{MasterTasks, Replies};
 use policy_model::{DropCause, MemberDrop};
-use publication::Stage;
+use publication::{Publication, Stage};
 use state_journal::Keeper;
 use std::alloc::{AllocError, Global};
 use voting_config::NodeId;
@@ -152,6 +154,36 @@ impl<K: Keeper> Coordinator<K> {
         }
     }
 
+    // Whether those of its targets that have responded, or are not to be removed, are a quorum that commits.
+    fn may_commit(&self, publication: &Publication) -> bool
+        ensures { result ≡ commits (view_in K.Keeper self.now).node (may_respond publication.now self.now.tasks.removals) }
+    {
+        let responders = publication.responders().sources();
+        let gone = self.tasks.removals().without(&responders);
+        let left = publication.targets().without(&gone);
+        self.core.committed().is_quorum(&left) && self.core.published().1.is_quorum(&left)
+    }
+
+    // Whether those who may still respond to its publication are no quorum.
+    pub(crate) fn is_hopeless(&self) -> bool
+        ensures { result ≡ is_hopeless_of (view_in K.Keeper self.now) self.now.publication }
+    {
+        match &self.publication {
+            None => false,
+            Some(publication) => { !publication.is_finished() && !self.may_commit(publication) }
+        }
+    }
+
+    // Whether its publication is given up.
+    fn gives_up(&self) -> bool
+        ensures { result ≡ gives_up_of self.now.settings (view_in K.Keeper self.now) }
+    {
+        if self.has_timed_out() {
+            return true;
+        }
+        self.settings.policy.second && self.is_hopeless()
+    }
+
     // What a leader does at a tick before it goes on.
     fn tick_members(&mut self, out: &mut Output)
         requires frames { to_set ≤ out.old.frames.room }
@@ -184,7 +216,7 @@ impl<K: Keeper> Coordinator<K> {
         requires drops { tick_drops ≤ out.old.drops.room }
         ensures does { DoesAll K.Keeper self.old self.new out.old out.new ticks_leader result }
     {
-        if self.has_timed_out() {
+        if self.gives_up() {
             return self.give_up(out);
         }
         let Ok(mut plan) = self.plan_tick(out.alloc) else {

@@ -1,5 +1,5 @@
 -- The next state out of its parts.
-use Rattle.std.proofs.Common.{◌≡◌, ℕ, ◌-◌, Bool, true, false, List, [], ◌++◌, length, sym, ap, ◌∙◌, arith}
+use Rattle.std.proofs.Common.{◌≡◌, ℕ, ◌-◌, Bool, true, false, not, ◌&&◌, List, [], ◌++◌, length, sym, ap, ◌∙◌, arith}
 use Rattle.std.specs.Prelude.{if◌then◌else◌}
 use Rattle.std.proofs.lemmas.List.{append-nil, append_assoc, length-append}
 use Rattle.voting_config.specs.Ids.{Id}
@@ -11,7 +11,7 @@ use Rattle.master_tasks.specs.declared.next.Next.TheVariants.{Same, New}
 use Rattle.master_tasks.specs.Replying.{Replies, room_for, with_sent}
 use Rattle.master_tasks.specs.Queue.{Tasks}
 use Rattle.master_tasks.specs.Processing.{Processed, processed_all}
-use Rattle.master_tasks.specs.NextState.{Leader, value_before, processed_by, next_value, config_for, next_config, is_accepted, is_nothing_new, acks, unacked, next_answers, waiting_after, next_replies, next_of}
+use Rattle.master_tasks.specs.NextState.{Leader, value_before, processed_by, next_value, config_for, next_config, is_accepted, sends_anew, is_nothing_new, acks, unacked, next_answers, waiting_after, next_replies, next_of}
 
 -- what was made
 pub record Made (l : Leader) (t : Tasks) (value : ClusterValue) (waiting : List Waiting) (replies : Replies) (config : List Id) : Type 0 where
@@ -25,7 +25,7 @@ pub made : (l : Leader) (t : Tasks) (before value : ClusterValue) (waiting : Lis
     → value ≡ (processed_all l.accepted before t.waiting).value
     → waiting ≡ (processed_all l.accepted before t.waiting).waiting
     → replies ≡ with_sent (room_for (length t.waiting)) (processed_all l.accepted before t.waiting).answers
-    → config ≡ config_for l.me l.accepted l.committed l.votes l.shrink value
+    → config ≡ config_for l.me l.term l.accepted l.committed l.votes l.policy value
     → Made l t value waiting replies config
 unfolding processed_by next_value next_config
 made l t before value waiting replies config is value_is waiting_is replies_are config_is =
@@ -35,13 +35,13 @@ made l t before value waiting replies config is value_is waiting_is replies_are 
       value_is = value_next;
       waiting_is = waiting_is ∙ ap (λ (p : Processed). p.waiting) all;
       replies_are = replies_are ∙ ap (λ (p : Processed). with_sent (room_for (length t.waiting)) p.answers) all;
-      config_is = config_is ∙ ap (config_for l.me l.accepted l.committed l.votes l.shrink) value_next;
+      config_is = config_is ∙ ap (config_for l.me l.term l.accepted l.committed l.votes l.policy) value_next;
     }
 
-nothing_new_is : (l : Leader) (t : Tasks) (value : ClusterValue) (waiting : List Waiting) (replies : Replies) (config : List Id) (b : Bool) → Made l t value waiting replies config → b ≡ is_accepted l.term l.accepted config value → is_nothing_new l t ≡ b
+nothing_new_is : (l : Leader) (t : Tasks) (value : ClusterValue) (waiting : List Waiting) (replies : Replies) (config : List Id) (b : Bool) → Made l t value waiting replies config → b ≡ (not (sends_anew l.policy t) && is_accepted l.term l.accepted config value) → is_nothing_new l t ≡ b
 unfolding is_nothing_new
 nothing_new_is l t value waiting replies config b m is =
-    sym (is ∙ ap (λ (c : List Id). is_accepted l.term l.accepted c value) m.config_is ∙ ap (is_accepted l.term l.accepted (next_config l t)) m.value_is)
+    sym (is ∙ ap (λ (c : List Id). not (sends_anew l.policy t) && is_accepted l.term l.accepted c value) m.config_is ∙ ap (λ (v : ClusterValue). not (sends_anew l.policy t) && is_accepted l.term l.accepted (next_config l t) v) m.value_is)
 
 abbrev the_replies : List Outgoing → ℕ → Replies
 the_replies sent room = record { sent = sent; room = room }
@@ -74,12 +74,12 @@ unfolding next_of next_replies next_answers
 next_is l t b h = ap (next_if l t) h
 
 -- there is a new state
-pub waiting_new : (l : Leader) (t : Tasks) (value : ClusterValue) (waiting : List Waiting) (replies : Replies) (config : List Id) → Made l t value waiting replies config → false ≡ is_accepted l.term l.accepted config value
+pub waiting_new : (l : Leader) (t : Tasks) (value : ClusterValue) (waiting : List Waiting) (replies : Replies) (config : List Id) → Made l t value waiting replies config → false ≡ (not (sends_anew l.policy t) && is_accepted l.term l.accepted config value)
     → waiting ≡ waiting_after l t
 waiting_new l t value waiting replies config m is =
     m.waiting_is ∙ sym (waiting_are l t false (nothing_new_is l t value waiting replies config false m is))
 
-pub next_new : (l : Leader) (t : Tasks) (value : ClusterValue) (waiting : List Waiting) (replies : Replies) (config : List Id) → Made l t value waiting replies config → false ≡ is_accepted l.term l.accepted config value
+pub next_new : (l : Leader) (t : Tasks) (value : ClusterValue) (waiting : List Waiting) (replies : Replies) (config : List Id) → Made l t value waiting replies config → false ≡ (not (sends_anew l.policy t) && is_accepted l.term l.accepted config value)
     → New config value replies ≡ next_of l t
 next_new l t value waiting replies config m is =
     ap (λ (c : List Id). New c value replies) m.config_is
@@ -88,12 +88,12 @@ next_new l t value waiting replies config m is =
     ∙ sym (next_is l t false (nothing_new_is l t value waiting replies config false m is))
 
 -- nothing is new
-pub waiting_same : (l : Leader) (t : Tasks) (value : ClusterValue) (waiting : List Waiting) (replies : Replies) (config : List Id) → Made l t value waiting replies config → true ≡ is_accepted l.term l.accepted config value
+pub waiting_same : (l : Leader) (t : Tasks) (value : ClusterValue) (waiting : List Waiting) (replies : Replies) (config : List Id) → Made l t value waiting replies config → true ≡ (not (sends_anew l.policy t) && is_accepted l.term l.accepted config value)
     → unacked l waiting ≡ waiting_after l t
 waiting_same l t value waiting replies config m is =
     ap (λ (ws : List Waiting). unacked l ws) m.waiting_is ∙ sym (waiting_are l t true (nothing_new_is l t value waiting replies config true m is))
 
-pub next_same : (l : Leader) (t : Tasks) (value : ClusterValue) (waiting : List Waiting) (replies : Replies) (config : List Id) → Made l t value waiting replies config → true ≡ is_accepted l.term l.accepted config value
+pub next_same : (l : Leader) (t : Tasks) (value : ClusterValue) (waiting : List Waiting) (replies : Replies) (config : List Id) → Made l t value waiting replies config → true ≡ (not (sends_anew l.policy t) && is_accepted l.term l.accepted config value)
     → Same (with_sent replies (acks l waiting)) ≡ next_of l t
 next_same l t value waiting replies config m is =
     ap Same

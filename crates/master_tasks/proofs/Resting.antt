@@ -30,10 +30,10 @@ value_stays : (l : Leader) → l.accepted.value.master ≡ Some l.me → next_va
 unfolding next_value processed_by
 value_stays l is = before_stays l.me l.accepted.value is
 
-nothing_is_new : (l : Leader) → l.accepted.value.master ≡ Some l.me → is_accepted l.term l.accepted (config_for l.me l.accepted l.committed l.votes l.shrink l.accepted.value) l.accepted.value ≡ true → is_nothing_new l no_tasks ≡ true
+nothing_is_new : (l : Leader) → l.accepted.value.master ≡ Some l.me → is_accepted l.term l.accepted (config_for l.me l.term l.accepted l.committed l.votes l.policy l.accepted.value) l.accepted.value ≡ true → is_nothing_new l no_tasks ≡ true
 unfolding is_nothing_new next_config
 nothing_is_new l is stays =
-    ap (λ (v : ClusterValue). is_accepted l.term l.accepted (config_for l.me l.accepted l.committed l.votes l.shrink v) v) (value_stays l is) ∙ stays
+    ap (λ (v : ClusterValue). is_accepted l.term l.accepted (config_for l.me l.term l.accepted l.committed l.votes l.policy v) v) (value_stays l is) ∙ stays
 
 none_answered : (l : Leader) → is_nothing_new l no_tasks ≡ true → next_answers l no_tasks ≡ []
 unfolding next_answers processed_by
@@ -43,7 +43,7 @@ none_left : (l : Leader) → is_nothing_new l no_tasks ≡ true → waiting_afte
 unfolding processed_by
 none_left l new = rw new refl
 
-pub at_rest : (l : Leader) → l.accepted.value.master ≡ Some l.me → is_accepted l.term l.accepted (config_for l.me l.accepted l.committed l.votes l.shrink l.accepted.value) l.accepted.value ≡ true → IsAtRest l no_tasks
+pub at_rest : (l : Leader) → l.accepted.value.master ≡ Some l.me → is_accepted l.term l.accepted (config_for l.me l.term l.accepted l.committed l.votes l.policy l.accepted.value) l.accepted.value ≡ true → IsAtRest l no_tasks
 at_rest l is stays =
     let new = nothing_is_new l is stays in
     record { nothing_new = new; waiting = none_left l new; answers = none_answered l new }

@@ -6,6 +6,7 @@ mod answering;
 mod laws;
 mod members;
 mod next;
+mod policy;
 mod processing;
 mod replies;
 mod tasks;
@@ -17,6 +18,7 @@ pub use laws::{
     law_offered_are_good,
 };
 pub use next::{Next, Prepared};
+pub use policy::Policy;
 pub use replies::Replies;
 pub use tasks::{MAX_OPEN, MasterTasks, OfferError};
 pub use waiting::{Outgoing, Waiting};

@@ -1,5 +1,5 @@
 //! `MasterTasks`: the requests that are not answered yet, the members that are to come and to go, and the next state that is made of them.
-ghost use Rattle.std.specs.Prelude.{◌≡◌, ◌↔◌, ◌<◌, ◌≤◌, [], length, slice_get, Some, Err, IsTrue, IfOk, IfErr, OnOk, OnErr};
+ghost use Rattle.std.specs.Prelude.{◌≡◌, not, ◌&&◌, ◌↔◌, ◌<◌, ◌≤◌, [], length, slice_get, Some, Err, IsTrue, IfOk, IfErr, OnOk, OnErr};
 ghost use Rattle.master_tasks.specs.declared.tasks.OfferError.TheVariants as offer_error;
 ghost use Rattle.master_tasks.specs.Answering.{answers_by, committed_in, exclusion_done, failed, left_by, timed_out, without_answered};
 ghost use Rattle.master_tasks.specs.Deciding.{decided};
@@ -12,6 +12,10 @@ ghost use Rattle.master_tasks.specs.NextState.{
   IsAtRest,
   config_for as config_for_of,
   is_accepted as is_accepted_of,
+  may_move as may_move_of,
+  sends_anew as sends_anew_of,
+  has_writes as has_writes_of,
+  is_write as is_write_of,
   leader_of,
   next_of,
   value_before as value_before_of,
@@ -24,10 +28,11 @@ ghost use Rattle.master_tasks.specs.Replying.{room_for, with_sent};
 use crate::answering::Decision;
 use crate::members::join;
 use crate::next::{Next, Prepared};
+use crate::policy::Policy;
 use crate::processing::process_once;
 use crate::replies::Replies;
 use crate::waiting::Waiting;
-use cluster_state::{ClusterState, ClusterValue, Request, SharedState, StateId};
+use cluster_state::{Ask, ClusterState, ClusterValue, Request, SharedState, StateId};
 use reconfigurator::{stays, target};
 use std::alloc::{AllocError, Global};
 use std::marker::Model;
@@ -187,6 +192,13 @@ impl MasterTasks {
         self.removals.put_if_room(id);
     }
 
+    /// Who is to be a member no more.
+    pub fn removals(&self) -> &NodeSet
+        ensures { result.now ≡ self.now.removals }
+    {
+        &self.removals
+    }
+
     /// The same tasks once more.
     pub fn copy(&self) -> Result<MasterTasks, AllocError>
         ensures { IfOk result (λ t. t ≡ self.now) }
@@ -279,6 +291,28 @@ impl MasterTasks {
         self.waiting.is_empty() && self.keeps_members()
     }
 
+    // Whether a state is sent since anybody joins, or a write waits.
+    fn sends_anew(&self, policy: Policy, waiting: &Vec<Waiting>) -> bool
+        ensures { result ≡ sends_anew_of policy self.now.additions waiting.now.items }
+    {
+        (self.additions.len() > 0 || has_writes(waiting)) && policy.second
+    }
+
+    // Whether no state is sent for itself, and the configuration and the value are the accepted ones, in this term.
+    fn is_nothing_new(
+        &self,
+        term: u64,
+        accepted: &ClusterState,
+        policy: Policy,
+        waiting: &Vec<Waiting>,
+        config: &IdList,
+        value: &ClusterValue,
+    ) -> bool
+        ensures { result ≡ (not (sends_anew_of policy self.now.additions waiting.now.items) && is_accepted_of term accepted.now config.now value.now) }
+    {
+        !self.sends_anew(policy, waiting) && is_accepted(term, accepted, config, value)
+    }
+
     /// Whether it is plain that nothing comes of the tasks, before [`prepare`](MasterTasks::prepare) makes a value: nothing waits, nobody
     /// is to come or to go, and the accepted state is the leader's own and stays. It takes no memory. Where it is false, `prepare` tells.
     pub fn is_at_rest(
@@ -288,9 +322,9 @@ impl MasterTasks {
         accepted: &ClusterState,
         committed: &VotingConfig,
         votes: &JoinVotes,
-        shrink: bool,
+        policy: Policy,
     ) -> bool
-        ensures { IsTrue result → IsAtRest (leader_of me term accepted.now committed.now votes.now shrink) self.now }
+        ensures { IsTrue result → IsAtRest (leader_of me term accepted.now committed.now votes.now policy) self.now }
     {
         if !self.is_idle() {
             return false;
@@ -298,7 +332,7 @@ impl MasterTasks {
         if !is_master(me, &accepted.value) {
             return false;
         }
-        accepted_stays(me, term, accepted, committed, votes, shrink)
+        accepted_stays(me, term, accepted, committed, votes, policy)
     }
 
     /// What comes of the tasks, made by a leader in its `term` of its accepted state, the committed configuration and
@@ -306,7 +340,7 @@ impl MasterTasks {
     /// members that are to go leave it, but never the node itself; members that are to come join it as far as there
     /// is room, the node itself first; and the requests that were not processed yet are processed from the first on, each
     /// on the value so far. Where that is the accepted value and configuration, in the current term, it is `Same`, and
-    /// what waits is acknowledged. The tasks stay as they are: [`MasterTasks::leave_only`] takes over who waits on.
+    /// what waits is acknowledged; but in the second profile it is `New` where anybody is to come, or a put, a remove or a clear waits. The tasks stay as they are: [`MasterTasks::leave_only`] takes over who waits on.
     pub fn prepare(
         &self,
         me: NodeId,
@@ -314,11 +348,11 @@ impl MasterTasks {
         accepted: &SharedState,
         committed: &VotingConfig,
         votes: &JoinVotes,
-        shrink: bool,
+        policy: Policy,
     ) -> Result<Prepared, AllocError>
         ensures waiting { IfOk result
-            (λ p. p.waiting.items ≡ waiting_after (leader_of me term accepted.now committed.now votes.now shrink) self.now) }
-        ensures next { IfOk result (λ p. p.next ≡ next_of (leader_of me term accepted.now committed.now votes.now shrink) self.now) }
+            (λ p. p.waiting.items ≡ waiting_after (leader_of me term accepted.now committed.now votes.now policy) self.now) }
+        ensures next { IfOk result (λ p. p.next ≡ next_of (leader_of me term accepted.now committed.now votes.now policy) self.now) }
         ensures few { IfOk result (λ p. length p.waiting.items ≤ MAX_OPEN) }
         // What is published is within the limits, if the accepted value is and no request is to put a bad setting.
         ensures fits { IsFitValue accepted.now.value → HaveGoodSettings self.now.waiting → IfOk result (λ p. IsFitNext p.next) }
@@ -332,8 +366,10 @@ impl MasterTasks {
             mut waiting,
             mut replies,
         } = self.process(accepted, &mut value)?;
-        let config = config_for(self.alloc, me, state, committed, votes, shrink, &value)?;
-        if is_accepted(term, state, &config, &value) {
+        let config = config_for(
+            self.alloc, me, term, state, committed, votes, policy, &value,
+        )?;
+        if self.is_nothing_new(term, state, policy, &waiting, &config, &value) {
             answer_by(
                 &mut waiting,
                 &Decision::NothingNew(committed, state.id()),
@@ -363,16 +399,16 @@ impl MasterTasks {
         accepted: &SharedState,
         committed: &VotingConfig,
         votes: &JoinVotes,
-        shrink: bool,
+        policy: Policy,
     ) -> Result<Next, AllocError>
-        ensures tasks { OnOk result (self.new ≡ tasks_after (leader_of me term accepted.now committed.now votes.now shrink) self.old) }
-        ensures next { IfOk result (λ n. n ≡ next_of (leader_of me term accepted.now committed.now votes.now shrink) self.old) }
+        ensures tasks { OnOk result (self.new ≡ tasks_after (leader_of me term accepted.now committed.now votes.now policy) self.old) }
+        ensures next { IfOk result (λ n. n ≡ next_of (leader_of me term accepted.now committed.now votes.now policy) self.old) }
         ensures err { OnErr result (self.new ≡ self.old) }
         ensures fits { IsFitValue accepted.now.value → HaveGoodSettings self.old.waiting → IfOk result IsFitNext }
         ensures good { HaveGoodSettings self.old.waiting → OnOk result (HaveGoodSettings self.new.waiting) }
     {
         let Prepared { next, waiting } = self.prepare(
-            me, term, accepted, committed, votes, shrink,
+            me, term, accepted, committed, votes, policy,
         )?;
         self.leave_only(waiting);
         Ok(next)
@@ -442,23 +478,48 @@ fn answer_by(waiting: &mut Vec<Waiting>, decision: &Decision, out: &mut Replies)
     }
 }
 
+// Whether it is a put, a remove or a clear.
+fn is_write(ask: &Ask) -> bool
+    ensures { result ≡ is_write_of ask.now }
+{
+    match ask {
+        Ask::Put { .. } | Ask::Remove { .. } | Ask::Clear { .. } => true,
+        Ask::Exclude(_) | Ask::State => false,
+    }
+}
+
+// Whether a put, a remove or a clear waits.
+fn has_writes(waiting: &Vec<Waiting>) -> bool
+    ensures { result ≡ has_writes_of waiting.now.items }
+{
+    waiting.iter().any(|w| is_write(&w.request.ask))
+}
+
+// Whether another configuration may be wanted.
+fn may_move(term: u64, accepted: &ClusterState, committed: &VotingConfig, policy: Policy) -> bool
+    ensures { result ≡ may_move_of term accepted.now committed.now policy }
+{
+    committed.is_same_list(&accepted.config) && (!policy.second || accepted.term == term)
+}
+
 // The configuration that is wanted for the value.
 #[tactic(auto, unfolding(crate::specs::NextState::config_for))]
 fn config_for(
     alloc: Global,
     me: NodeId,
+    term: u64,
     accepted: &ClusterState,
     committed: &VotingConfig,
     votes: &JoinVotes,
-    shrink: bool,
+    policy: Policy,
     value: &ClusterValue,
 ) -> Result<IdList, AllocError>
-    ensures { IfOk result (λ config. config ≡ config_for_of me accepted.now committed.now votes.now shrink value.now) }
+    ensures { IfOk result (λ config. config ≡ config_for_of me term accepted.now committed.now votes.now policy value.now) }
 {
-    if !committed.is_same_list(&accepted.config) {
+    if !may_move(term, accepted, committed, policy) {
         return accepted.config.copy();
     }
-    target_for(alloc, me, &accepted.config, votes, shrink, value)
+    target_for(alloc, me, &accepted.config, votes, policy.shrink, value)
 }
 
 // The configuration that a master aims at for the value. Most often it is that of today, and no set is made then.
@@ -527,34 +588,35 @@ fn accepted_stays(
     accepted: &ClusterState,
     committed: &VotingConfig,
     votes: &JoinVotes,
-    shrink: bool,
+    policy: Policy,
 ) -> bool
     ensures { IsTrue result
-        → IsTrue (is_accepted_of term accepted.now (config_for_of me accepted.now committed.now votes.now shrink accepted.now.value)
+        → IsTrue (is_accepted_of term accepted.now (config_for_of me term accepted.now committed.now votes.now policy accepted.now.value)
         accepted.now.value) }
 {
     if accepted.term != term {
         return false;
     }
-    keeps_config(me, accepted, committed, votes, shrink)
+    keeps_config(me, term, accepted, committed, votes, policy)
 }
 
 // Whether the accepted configuration is the one that is wanted for the accepted value.
 #[tactic(auto, unfolding(crate::specs::NextState::config_for))]
 fn keeps_config(
     me: NodeId,
+    term: u64,
     accepted: &ClusterState,
     committed: &VotingConfig,
     votes: &JoinVotes,
-    shrink: bool,
+    policy: Policy,
 ) -> bool
     ensures { IsTrue result
-        → config_for_of me accepted.now committed.now votes.now shrink accepted.now.value ≡ accepted.now.config }
+        → config_for_of me term accepted.now committed.now votes.now policy accepted.now.value ≡ accepted.now.config }
 {
-    if !committed.is_same_list(&accepted.config) {
+    if !may_move(term, accepted, committed, policy) {
         return true;
     }
-    is_target(me, &accepted.config, votes, shrink, &accepted.value)
+    is_target(me, &accepted.config, votes, policy.shrink, &accepted.value)
 }
 
 // Whether the configuration and the value are the accepted ones, in this term.

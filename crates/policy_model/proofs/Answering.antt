@@ -123,8 +123,14 @@ module _ (s : Settings) where
   quiet-hands_over : (v : View) → IsQuiet (next.hands_over s v)
   quiet-hands_over v = search (quiet-if, quiet-asks_successor, Silent, Also)
 
+  quiet-asks_votes : (v : View) → IsQuiet (next.asks_votes s v)
+  quiet-asks_votes v = search (quiet-asks_successor, Also)
+
+  answered-leads_on : (v : View) → IsAnswered s v (next.leads_on s v)
+  answered-leads_on v = answered-if v (next.wants_votes s v) _ _ (answered-quiet v _ (quiet-asks_votes v)) (answered-makes_state v)
+
   answered-goes_on : (v : View) → IsAnswered s v (next.goes_on s v)
-  answered-goes_on v = search (answered-if, answered-makes_state, answered-quiet, quiet-hands_over, Ended)
+  answered-goes_on v = search (answered-if, answered-leads_on, answered-quiet, quiet-hands_over, Ended)
 
   -- elections
   answered-takes_config : (v : View) (o : Option (List Id)) → IsAnswered s v (elections.takes_config s v o)
@@ -244,8 +250,9 @@ module _ (s : Settings) where
 
   answered-follows_checker : (v : View) (p : Id) → IsAnswered s v (checks.follows_checker s v p)
   answered-follows_checker v p =
-      answered-if v (doing.is_leader v.mode) _ _ (ByQuiet _ _ _ refl (Ended _))
-      (answered-then v _ (λ u. checks.answers_leader s u p true) (answered-quiet v _ (quiet-becomes_follower v p)) (λ u. ByQuiet _ _ _ refl (Ended _)))
+      answered-if v (doing.is_second s) _ _ (ByQuiet _ _ _ refl (Ended _))
+      (answered-if v (doing.is_leader v.mode) _ _ (ByQuiet _ _ _ refl (Ended _))
+      (answered-then v _ (λ u. checks.answers_leader s u p true) (answered-quiet v _ (quiet-becomes_follower v p)) (λ u. ByQuiet _ _ _ refl (Ended _))))
 
   answered-checked_by_leader : (v : View) (p : Id) (term : ℕ) → IsAnswered s v (checks.on_follower_check s v p term)
   answered-checked_by_leader v p term =
@@ -275,7 +282,7 @@ module _ (s : Settings) where
 
   answered-ticks_leader : (v : View) → IsAnswered s v (rules.ticks_leader s v)
   answered-ticks_leader v =
-      answered-if v (rules.has_timed_out v.publication v.moment) _ _
+      answered-if v (rules.gives_up s v) _ _
       (answered-quiet v _ (quiet-becomes_candidate v))
       (answered-then v _ (next.goes_on s)
       (answered-then v _ (checks.checks_followers s) (answered-quiet v _ (quiet-times_out v)) (λ u. answered-quiet u _ (quiet-checks_followers u)))

@@ -40,7 +40,7 @@ abbrev state_id : ℕ → ℕ → StateId
 state_id term version = record { term = term; version = version }
 
 abbrev three : Settings
-three = record { me = a; peers = []; initial = a ∷ b ∷ c ∷ []; voting_only = []; shrink = true }
+three = record { me = a; peers = []; initial = a ∷ b ∷ c ∷ []; voting_only = []; policy = record { shrink = true; second = false } }
 
 abbrev to : Id → WireMessage → Item
 to id m = Sends (record { from = a; to = id; message = m })

@@ -24,7 +24,7 @@ use Rattle.policy_model.specs.Entries.{frames_of}
 use Rattle.policy_model.specs.LookBacks.{mode_of, applied_of}
 use Rattle.policy_model.specs.Parts.{published_at}
 use Rattle.policy_model.specs.Doing.{becomes_candidate, becomes_follower}
-use Rattle.policy_model.specs.NextState.{hands_over}
+use Rattle.policy_model.specs.NextState.{goes_on, hands_over, makes_state}
 use Rattle.policy_model.specs.Publications.{sends_first_commit}
 use Rattle.policy_model.specs.Views.{View}
 use Rattle.policy_model.specs.Follows.{items_of}
@@ -40,7 +40,11 @@ b = 98 ∷ []
 
 -- a node alone, and with another
 abbrev alone : Settings
-alone = record { me = a; peers = []; initial = a ∷ []; voting_only = []; shrink = true }
+alone = record { me = a; peers = []; initial = a ∷ []; voting_only = []; policy = record { shrink = true; second = false } }
+
+-- the same in the second profile
+abbrev second : Settings
+second = record alone { policy = record { shrink = true; second = true } }
 
 abbrev started : Log
 started = added (And NoItems (Begins Start)) (items_of alone NoItems Start)
@@ -116,9 +120,48 @@ publishes_first = record { publishes = refl; leads = refl; responds = refl; comm
 
 module _ (s : Settings) (v : View) where
   -- a follower answers its leader's check
-  follower_answers : on_follower_check s (record v { mode = Follower b; node = record v.node { term = 1 } }) b 1
-      ≡ Sends (record { from = s.me; to = b; message = message.FollowerAnswer true 1 v.applied }) ∷ []
+  follower_answers : on_follower_check alone (record v { mode = Follower b; node = record v.node { term = 1 } }) b 1
+      ≡ Sends (record { from = a; to = b; message = message.FollowerAnswer true 1 v.applied }) ∷ []
   follower_answers = refl
+
+  -- so it does in the second profile, but a candidate is made no follower by a check
+  follower_answers_too : on_follower_check second (record v { mode = Follower b; node = record v.node { term = 1 } }) b 1
+      ≡ Sends (record { from = a; to = b; message = message.FollowerAnswer true 1 v.applied }) ∷ []
+  follower_answers_too = refl
+
+  candidate_stays : on_follower_check second (record v { mode = Candidate; node = record v.node { term = 1 } }) b 1
+      ≡ Sends (record { from = a; to = b; message = message.FollowerAnswer false 1 v.applied }) ∷ []
+  candidate_stays = refl
+
+  -- a leader that lacks the vote of a responder asks all members for their votes in the next term, and processes no request
+  abbrev lacking : View
+  lacking = record v {
+    mode = Leader;
+    node = record v.node { term = 4; committed = a ∷ []; join_votes = a ∷ [] };
+    moment = 2000;
+    handover_due = 2000;
+    publication = Some (record (published_at (state_id 4 1) (a ∷ b ∷ []) 0) { responders = a ∷ b ∷ []; finished = true });
+  }
+
+  votes_are_asked : goes_on second lacking
+      ≡ Notes HandedOver ∷ Sends (record { from = a; to = a; message = message.StartJoin a 5 }) ∷ Sends (record { from = a; to = b; message = message.StartJoin a 5 }) ∷ []
+  votes_are_asked = refl
+
+  -- and not before the span is over
+  votes_wait : goes_on second (record lacking { handover_due = 2001 }) ≡ makes_state second (record lacking { handover_due = 2001 })
+  votes_wait = refl
+
+  -- a leader gives up at a tick where those who may still respond are no quorum
+  hopeless_is_given_up : (id : StateId)
+      → ticks_leader second (record v {
+        mode = Leader;
+        moment = 1000;
+        node = record v.node { committed = a ∷ b ∷ []; published_config = a ∷ b ∷ [] };
+        publication = Some (published_at id (a ∷ b ∷ []) 8);
+        tasks = record no_tasks { removals = b ∷ [] };
+      })
+      ≡ ChangesMode Candidate v.node.term ∷ []
+  hopeless_is_given_up id = refl
 
   -- a candidate is no master, and knows of none
   candidate_is_no_master : (conn : ℕ) (request : Request) → takes_line s (record v { mode = Candidate }) conn (Ok request)

@@ -154,7 +154,7 @@ module _ (s : Settings) where
   note-fits v StateMade f e = with_waiting v.node v.applied v.round v.tasks.waiting _ f (good_after (as_master s v.node) v.tasks f.good)
   note-fits v HandedOver f e = f
   note-fits v (PeerLost id) f e = f
-  note-fits v (LeaderLost rank) f e = f
+  note-fits v LeaderLost f e = f
 
   item-fits : (v : View) (i : Item) → IsFitView v → FitItem i → IsFitView (moved s v i)
   item-fits v (ChangesMode Candidate term) f e = record { term = f.term; accepted = f.accepted; older = f.older; settings = f.settings; applied_id = f.applied_id; terms = tt; good = tt }
@@ -288,7 +288,7 @@ module _ (s : Settings) where
     older = older-term _ v.node.accepted.term term v.node.term f.older;
     settings = f.settings;
     applied_id = f.applied_id;
-    terms = none-fits (yields s v.election_rank candidate (Answered (reply_at s.me v.node (StartJoin candidate term)))) v.round f.terms;
+    terms = none-fits (yields s v.lost_leader candidate (Answered (reply_at s.me v.node (StartJoin candidate term)))) v.round f.terms;
     good = f.good;
   }
   act-fits v (TakeJoin join) f e = record { term = f.term; accepted = f.accepted; older = f.older; settings = f.settings; applied_id = f.applied_id; terms = f.terms; good = f.good }
@@ -430,10 +430,16 @@ module _ (s : Settings) where
   sound-hands_over : (v : View) → AreSound (next.hands_over s v)
   sound-hands_over v = sound-if (is_due v.handover_due v.moment) _ _ (Also _ _ tt (sound-asks_successor v (next.successor_of s v))) Silent
 
+  sound-asks_votes : (v : View) → AreSound (next.asks_votes s v)
+  sound-asks_votes v = Also _ _ tt (sound-asks_successor v (Some s.me))
+
+  fit-leads_on : (v : View) → IsFitView v → Fit v (next.leads_on s v)
+  fit-leads_on v f = fit-if v (next.wants_votes s v) _ _ (λ e. fit-sound v _ f (sound-asks_votes v)) (fit-makes_state v f)
+
   fit-goes_on : (v : View) → IsFitView v → Fit v (next.goes_on s v)
   fit-goes_on v f =
       fit-if v (doing.is_leader v.mode && not (next.is_in_flight v.publication)) _ _
-      (λ e. fit-if v (doing.may_win s v) _ _ (λ w. fit-makes_state v f) (fit-sound v _ f (sound-hands_over v))) (fit-none v f)
+      (λ e. fit-if v (doing.may_win s v) _ _ (λ w. fit-leads_on v f) (fit-sound v _ f (sound-hands_over v))) (fit-none v f)
 
   -- ---- elections
 
@@ -570,8 +576,9 @@ module _ (s : Settings) where
 
   fit-follows_checker : (v : View) (p : Id) → IsFitView v → Fit v (checks.follows_checker s v p)
   fit-follows_checker v p f =
-      fit-if v (doing.is_leader v.mode) _ _ (λ e. fit-sound v _ f (sound-answers_leader v p false f))
-      (fit-then v _ (λ u. checks.answers_leader s u p true) (fit-sound v _ f (sound-becomes_follower v p)) (λ u g. fit-sound u _ g (sound-answers_leader u p true g)))
+      fit-if v (doing.is_second s) _ _ (λ e. fit-sound v _ f (sound-answers_leader v p (doing.follows_node v.mode p) f))
+      (fit-if v (doing.is_leader v.mode) _ _ (λ e. fit-sound v _ f (sound-answers_leader v p false f))
+      (fit-then v _ (λ u. checks.answers_leader s u p true) (fit-sound v _ f (sound-becomes_follower v p)) (λ u g. fit-sound u _ g (sound-answers_leader u p true g))))
 
   fit-checked_by_leader : (v : View) (p : Id) (term : ℕ) → IsFitView v → Fit v (checks.on_follower_check s v p term)
   fit-checked_by_leader v p term f =
@@ -609,7 +616,7 @@ module _ (s : Settings) where
 
   fit-leader : (v : View) → IsFitView v → Fit v (rules.ticks_leader s v)
   fit-leader v f =
-      fit-if v (rules.has_timed_out v.publication v.moment) _ _ (λ e. fit-sound v _ f (sound-becomes_candidate v))
+      fit-if v (rules.gives_up s v) _ _ (λ e. fit-sound v _ f (sound-becomes_candidate v))
       (fit-then v _ (next.goes_on s)
       (fit-then v _ (checks.checks_followers s) (fit-sound v _ f (sound-times_out v)) (λ u g. fit-sound u _ g (sound-checks_followers u g)))
       fit-goes_on)

@@ -285,7 +285,7 @@ module _ (s : Settings) where
   note-small v ExclusionsAcked f = f
   note-small v StateMade f = f
   note-small v HandedOver f = f
-  note-small v (LeaderLost rank) f = record { members = f.members; peers = f.peers; watched = f.watched; targets = f.targets; responders = f.responders }
+  note-small v LeaderLost f = record { members = f.members; peers = f.peers; watched = f.watched; targets = f.targets; responders = f.responders }
   note-small v (PeerLost id) f =
       let rest = fewer (λ (x : FollowerState). not (same x.id id)) v.followers.watched in
       record { members = f.members; peers = rw (length-map v.finder.peers _) f.peers; watched = omega (arith, f.watched, rest); targets = f.targets; responders = f.responders }
@@ -442,10 +442,16 @@ module _ (s : Settings) where
   few-hands_over v f =
       few-if 64 v (is_due v.handover_due v.moment) _ _ (few-item 64 v _ _ refl f (λ g. few-asks_successor _ v (next.successor_of s v) g f)) (none-within 64 v f)
 
+  few-asks_votes : (v : View) → IsSmallView v → Few 64 v (next.asks_votes s v)
+  few-asks_votes v f = few-item 64 v _ _ refl f (λ g. few-asks_successor _ v (Some s.me) g f)
+
+  few-leads_on : (v : View) → IsSmallView v → Few 64 v (next.leads_on s v)
+  few-leads_on v f = few-if 64 v (next.wants_votes s v) _ _ (few-asks_votes v f) (few-makes_state v f)
+
   few-goes_on : (v : View) → IsSmallView v → Few 64 v (next.goes_on s v)
   few-goes_on v f =
       few-if 64 v (doing.is_leader v.mode && not (next.is_in_flight v.publication)) _ _
-      (few-if 64 v (doing.may_win s v) _ _ (few-makes_state v f) (few-hands_over v f)) (none-within 64 v f)
+      (few-if 64 v (doing.may_win s v) _ _ (few-leads_on v f) (few-hands_over v f)) (none-within 64 v f)
 
   -- ---- elections
 
@@ -620,8 +626,9 @@ module _ (s : Settings) where
 
   few-follows_checker : (v : View) (p : Id) → IsSmallView v → Few 1 v (checks.follows_checker s v p)
   few-follows_checker v p f =
-      few-if 1 v (doing.is_leader v.mode) _ _ (few-answers_leader v p false f)
-      (few-then 0 1 v _ (λ u. checks.answers_leader s u p true) (few-becomes_follower v p f) (λ u g. few-answers_leader u p true g))
+      few-if 1 v (doing.is_second s) _ _ (few-answers_leader v p (doing.follows_node v.mode p) f)
+      (few-if 1 v (doing.is_leader v.mode) _ _ (few-answers_leader v p false f)
+      (few-then 0 1 v _ (λ u. checks.answers_leader s u p true) (few-becomes_follower v p f) (λ u g. few-answers_leader u p true g)))
 
   few-checked_by_leader : (v : View) (p : Id) (term : ℕ) → IsSmallView v → Few 2 v (checks.on_follower_check s v p term)
   few-checked_by_leader v p term f =
@@ -657,7 +664,7 @@ module _ (s : Settings) where
 
   few-leader : (v : View) → IsSmallView v → Few 128 v (rules.ticks_leader s v)
   few-leader v f =
-      few-if 128 v (rules.has_timed_out v.publication v.moment) _ _ (few-more 0 128 v _ (omega arith) (few-becomes_candidate v f))
+      few-if 128 v (rules.gives_up s v) _ _ (few-more 0 128 v _ (omega arith) (few-becomes_candidate v f))
       (few-then 64 64 v _ (next.goes_on s) (few-then 0 64 v _ (checks.checks_followers s) (few-times_out v f) few-checks_followers) few-goes_on)
 
   few-ticks : (v : View) (word : ℕ) (m : Mode) → IsSmallView v → Few 190 v (rules.ticks s v word m)

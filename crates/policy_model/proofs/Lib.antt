@@ -15,3 +15,4 @@ pub mod Served
 pub mod Queuing
 pub mod Cases
 mod VotingOnly
+mod FirstProfile

@@ -17,7 +17,7 @@ use Rattle.world_model.specs.Acts.{is_ok}
 use Rattle.policy_model.specs.declared.settings.Settings.{Settings}
 use Rattle.policy_model.specs.Events.{Candidate, Leader, Follower, Log, NoItems, And, Opens, Acts, ChangesMode, Notes, Met, Heard, PeersAsked, RoundBegun, RoundAnswered, RoundEnded, FollowersChecked, FollowerAnswered, LeaderChecked, LeaderAnswered, PeerLost, LeaderLost}
 use Rattle.policy_model.specs.Parts.{loss_grace, met, round_answered, responded, finished, state_finished, leader_ticked, leader_answered}
-use Rattle.policy_model.specs.LookBacks.{node_of, moment_of, sends_one, yields, election_rank_of, finder_of, round_of, publication_of, followers_of, leader_check_of}
+use Rattle.policy_model.specs.LookBacks.{node_of, moment_of, sends_one, yields, lost_leader_of, finder_of, round_of, publication_of, followers_of, leader_check_of}
 use Rattle.policy_model.specs.PartCalls.{with_added, finder_calls, round_calls, with_response, publication_calls, is_open, follower_calls, leader_calls}
 
 -- The peer finder.
@@ -35,7 +35,7 @@ finder_looks_back s (And l (Opens found)) = refl
 finder_looks_back s (And l (Notes (Met ids))) = met-all (finder_of s l) (finder_calls s l) ids (finder_looks_back s l)
 finder_looks_back s (And l (Notes (Heard peer master))) = told (finder_of s l) (finder_calls s l) (finder.Answered peer master) (finder_looks_back s l)
 finder_looks_back s (And l (Notes PeersAsked)) = told (finder_of s l) (finder_calls s l) (finder.Asked (moment_of l)) (finder_looks_back s l)
-finder_looks_back s (And l (Notes (LeaderLost rank))) = told (finder_of s l) (finder_calls s l) (finder.Held (moment_of l) loss_grace) (finder_looks_back s l)
+finder_looks_back s (And l (Notes LeaderLost)) = told (finder_of s l) (finder_calls s l) (finder.Held (moment_of l) loss_grace) (finder_looks_back s l)
 finder_looks_back s (And l (Notes (PeerLost id))) = told (finder_of s l) (finder_calls s l) (finder.Disconnected id (moment_of l)) (finder_looks_back s l)
 finder_looks_back s (And l (ChangesMode Candidate term)) = told (finder_of s l) (finder_calls s l) (finder.AnswersForgotten (moment_of l)) (finder_looks_back s l)
 finder_looks_back s (And l i) = finder_looks_back s l
@@ -57,7 +57,7 @@ round_looks_back s (And l (Notes (RoundBegun word))) = refl
 round_looks_back s (And l (Notes (RoundAnswered source term last))) =
     ap (λ (r : Option Round). round_answered r source term last) (round_looks_back s l) ∙ answered-one (round_calls s l) source term last
 round_looks_back s (And l (Notes RoundEnded)) = refl
-round_looks_back s (And l (Acts (StartJoin candidate term) o)) = none-or (yields s (election_rank_of s l) candidate o) _ _ (round_looks_back s l)
+round_looks_back s (And l (Acts (StartJoin candidate term) o)) = none-or (yields s (lost_leader_of l) candidate o) _ _ (round_looks_back s l)
 round_looks_back s (And l (ChangesMode Candidate term)) = refl
 round_looks_back s (And l i) = round_looks_back s l
 

@@ -146,7 +146,7 @@ note-mode s v ExclusionsAcked = refl
 note-mode s v StateMade = refl
 note-mode s v HandedOver = refl
 note-mode s v (PeerLost id) = refl
-note-mode s v (LeaderLost rank) = refl
+note-mode s v LeaderLost = refl
 
 -- the queue, and that only a leader has one
 record Stands (s : Settings) (l : Log) (v : View) : Type 0 where

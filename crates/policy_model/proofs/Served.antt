@@ -196,8 +196,14 @@ module _ (s : Settings) where
   aside-hands_over : (v : View) → AreAside (next.hands_over s v)
   aside-hands_over v = search (aside-if, aside-asks_successor, Nothing, Also)
 
+  aside-asks_votes : (v : View) → AreAside (next.asks_votes s v)
+  aside-asks_votes v = search (aside-asks_successor, Also)
+
+  served-leads_on : (v : View) → IsServed s v (next.leads_on s v)
+  served-leads_on v = served-if v (next.wants_votes s v) _ _ (served-aside v _ (aside-asks_votes v)) (served-makes_state v)
+
   served-goes_on : (v : View) → IsServed s v (next.goes_on s v)
-  served-goes_on v = search (served-if, served-makes_state, served-aside, aside-hands_over, Ended)
+  served-goes_on v = search (served-if, served-leads_on, served-aside, aside-hands_over, Ended)
 
   -- elections
   served-takes_config : (v : View) (o : Option (List Id)) → IsServed s v (elections.takes_config s v o)
@@ -321,8 +327,9 @@ module _ (s : Settings) where
 
   served-follows_checker : (v : View) (p : Id) → IsServed s v (checks.follows_checker s v p)
   served-follows_checker v p =
-      served-if v (doing.is_leader v.mode) _ _ (Aside _ _ _ refl (Ended _))
-      (served-then v _ (λ u. checks.answers_leader s u p true) (served-becomes_follower v p) (λ u. Aside _ _ _ refl (Ended _)))
+      served-if v (doing.is_second s) _ _ (Aside _ _ _ refl (Ended _))
+      (served-if v (doing.is_leader v.mode) _ _ (Aside _ _ _ refl (Ended _))
+      (served-then v _ (λ u. checks.answers_leader s u p true) (served-becomes_follower v p) (λ u. Aside _ _ _ refl (Ended _))))
 
   served-checked_by_leader : (v : View) (p : Id) (term : ℕ) → IsServed s v (checks.on_follower_check s v p term)
   served-checked_by_leader v p term =
@@ -354,7 +361,7 @@ module _ (s : Settings) where
 
   served-ticks_leader : (v : View) → IsServed s v (rules.ticks_leader s v)
   served-ticks_leader v =
-      served-if v (rules.has_timed_out v.publication v.moment) _ _ (served-becomes_candidate v)
+      served-if v (rules.gives_up s v) _ _ (served-becomes_candidate v)
       (served-then v _ (next.goes_on s)
       (served-then v _ (checks.checks_followers s) (served-times_out v) (λ u. served-aside u _ (aside-checks_followers u)))
       served-goes_on)

@@ -179,10 +179,16 @@ module _ (s : Settings) where
   silent-hands_over : (v : View) → AreSilent (next.hands_over s v)
   silent-hands_over v = silent-if (is_due v.handover_due v.moment) _ _ (Also _ _ refl (silent-asks_successor v (next.successor_of s v))) Silent
 
+  silent-asks_votes : (v : View) → AreSilent (next.asks_votes s v)
+  silent-asks_votes v = Also _ _ refl (silent-asks_successor v (Some s.me))
+
+  most-leads_on : (v : View) → AtMost 1 2 (next.leads_on s v)
+  most-leads_on v = most-if 1 2 (next.wants_votes s v) _ _ (most-quiet 1 2 _ (silent-asks_votes v)) (most-makes_state v)
+
   most-goes_on : (v : View) → AtMost 1 2 (next.goes_on s v)
   most-goes_on v =
       most-if 1 2 (doing.is_leader v.mode && not (next.is_in_flight v.publication)) _ _
-      (most-if 1 2 (doing.may_win s v) _ _ (most-makes_state v) (most-quiet 1 2 _ (silent-hands_over v))) (most-none 1 2)
+      (most-if 1 2 (doing.may_win s v) _ _ (most-leads_on v) (most-quiet 1 2 _ (silent-hands_over v))) (most-none 1 2)
 
   -- ---- elections
 
@@ -317,8 +323,9 @@ module _ (s : Settings) where
 
   most-follows_checker : (v : View) (p : Id) → AtMost 0 2 (checks.follows_checker s v p)
   most-follows_checker v p =
-      most-if 0 2 (doing.is_leader v.mode) _ _ (most-quiet 0 2 _ (silent-answers_leader v p false))
-      (most-then 0 2 0 0 v _ (λ u. checks.answers_leader s u p true) (most-becomes_follower v p) (λ u. most-quiet 0 0 _ (silent-answers_leader u p true)))
+      most-if 0 2 (doing.is_second s) _ _ (most-quiet 0 2 _ (silent-answers_leader v p (doing.follows_node v.mode p)))
+      (most-if 0 2 (doing.is_leader v.mode) _ _ (most-quiet 0 2 _ (silent-answers_leader v p false))
+      (most-then 0 2 0 0 v _ (λ u. checks.answers_leader s u p true) (most-becomes_follower v p) (λ u. most-quiet 0 0 _ (silent-answers_leader u p true))))
 
   most-checked_by_leader : (v : View) (p : Id) (term : ℕ) → AtMost 1 4 (checks.on_follower_check s v p term)
   most-checked_by_leader v p term =
@@ -349,7 +356,7 @@ module _ (s : Settings) where
 
   most-leader : (v : View) → AtMost 1 2 (rules.ticks_leader s v)
   most-leader v =
-      most-if 1 2 (rules.has_timed_out v.publication v.moment) _ _ (most-more 0 1 1 2 _ (most-becomes_candidate v) (omega arith) (omega arith))
+      most-if 1 2 (rules.gives_up s v) _ _ (most-more 0 1 1 2 _ (most-becomes_candidate v) (omega arith) (omega arith))
       (most-then 0 0 1 2 v _ (next.goes_on s)
       (most-then 0 0 0 0 v _ (checks.checks_followers s) (most-quiet 0 0 _ (silent-times_out v)) (λ u. most-quiet 0 0 _ (silent-checks_followers u)))
       most-goes_on)

@@ -115,7 +115,7 @@ module _ (s : Settings) where
   note-calm v StateMade e = let all = counted_next (as_master s v.node) v.tasks in omega (arith, all)
   note-calm v HandedOver e = omega arith
   note-calm v (PeerLost id) e = omega arith
-  note-calm v (LeaderLost rank) e = omega arith
+  note-calm v LeaderLost e = omega arith
 
   act-calm : (v : View) (act : Act) (o : Outcome) → open_in (moved s v (Acts act o)) ≤ open_in v
   act-calm v (Bootstrap config) o = omega arith
@@ -251,10 +251,16 @@ module _ (s : Settings) where
   calm-hands_over : (v : View) → AreCalm (next.hands_over s v)
   calm-hands_over v = calm-if (is_due v.handover_due v.moment) _ _ (Also _ _ refl (calm-asks_successor v (next.successor_of s v))) Silent
 
+  calm-asks_votes : (v : View) → AreCalm (next.asks_votes s v)
+  calm-asks_votes v = Also _ _ refl (calm-asks_successor v (Some s.me))
+
+  spends-leads_on : (v : View) → Spends s v (next.leads_on s v)
+  spends-leads_on v = spends-if v (next.wants_votes s v) _ _ (spends-calm v _ (calm-asks_votes v)) (spends-makes_state v)
+
   spends-goes_on : (v : View) → Spends s v (next.goes_on s v)
   spends-goes_on v =
       spends-if v (doing.is_leader v.mode && not (next.is_in_flight v.publication)) _ _
-      (spends-if v (doing.may_win s v) _ _ (spends-makes_state v) (spends-calm v _ (calm-hands_over v))) (spends-none v)
+      (spends-if v (doing.may_win s v) _ _ (spends-leads_on v) (spends-calm v _ (calm-hands_over v))) (spends-none v)
 
   -- ---- elections and discovery
 
@@ -398,8 +404,9 @@ module _ (s : Settings) where
 
   spends-follows_checker : (v : View) (p : Id) → Spends s v (checks.follows_checker s v p)
   spends-follows_checker v p =
-      spends-if v (doing.is_leader v.mode) _ _ (spends-answers_leader v p false)
-      (spends-then v _ (λ u. checks.answers_leader s u p true) (spends-becomes_follower v p) (λ u. spends-answers_leader u p true))
+      spends-if v (doing.is_second s) _ _ (spends-answers_leader v p (doing.follows_node v.mode p))
+      (spends-if v (doing.is_leader v.mode) _ _ (spends-answers_leader v p false)
+      (spends-then v _ (λ u. checks.answers_leader s u p true) (spends-becomes_follower v p) (λ u. spends-answers_leader u p true)))
 
   spends-checked_by_leader : (v : View) (p : Id) (term : ℕ) → Spends s v (checks.on_follower_check s v p term)
   spends-checked_by_leader v p term =
@@ -422,7 +429,7 @@ module _ (s : Settings) where
 
   spends-leader : (v : View) → Spends s v (rules.ticks_leader s v)
   spends-leader v =
-      spends-if v (rules.has_timed_out v.publication v.moment) _ _ (spends-becomes_candidate v)
+      spends-if v (rules.gives_up s v) _ _ (spends-becomes_candidate v)
       (spends-then v _ (next.goes_on s)
       (spends-then v _ (checks.checks_followers s) (spends-times_out v) (λ u. spends-calm u _ (calm-checks_followers u))) spends-goes_on)
 

@@ -10,7 +10,7 @@ use Rattle.fault_checks.specs.Leaders.{LeaderCheck, leader_tick}
 use Rattle.policy_model.specs.declared.settings.Settings.{Settings}
 use Rattle.policy_model.specs.Events.{DropCause, Checks, Lag, Item, Drops, Notes, FollowersChecked, FollowerAnswered, LeaderChecked, LeaderAnswered}
 use Rattle.policy_model.specs.Views.{View}
-use Rattle.policy_model.specs.Doing.{is_leader, follows_node, then_rule, send, send_all, becomes_candidate, raises_term, becomes_follower}
+use Rattle.policy_model.specs.Doing.{is_leader, is_second, follows_node, then_rule, send, send_all, becomes_candidate, raises_term, becomes_follower}
 use Rattle.policy_model.specs.NextState.{targets_of}
 
 abbrev pub drop_all : List Id → DropCause → List Item
@@ -38,10 +38,11 @@ module _ (s : Settings) where
   abbrev pub answers_leader : View → Id → Bool → List Item
   answers_leader v p good = send s p (message.FollowerAnswer good v.node.term v.applied) ∷ []
 
-  -- a leader does not follow; another node follows the one that checks it
+  -- a leader does not follow; another node follows the one that checks it, but in the second profile only those that were sent a state do
   abbrev pub follows_checker : View → Id → List Item
   follows_checker v p =
-      if is_leader v.mode then answers_leader v p false
+      if is_second s then answers_leader v p (follows_node v.mode p)
+      else if is_leader v.mode then answers_leader v p false
       else then_rule s v (becomes_follower s v p) (λ v'. answers_leader v' p true)
 
   -- a check of an earlier term is answered no; one of a later term raises the node's own first

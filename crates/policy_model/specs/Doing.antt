@@ -74,6 +74,10 @@ module _ (s : Settings) where
   abbrev pub is_voting_only : Id → Bool
   is_voting_only id = has id s.voting_only
 
+  -- whether the node goes by the second profile
+  abbrev pub is_second : Bool
+  is_second = s.policy.second
+
   -- becoming a candidate: a leader's open requests fail, with the term in which it led
   abbrev pub becomes_candidate : View → List Item
   becomes_candidate v =

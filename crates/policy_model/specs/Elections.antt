@@ -1,7 +1,7 @@
 -- Part of the statement: how a candidate comes to be elected: the first configuration, the wait for an election, pre-votes.
-use Rattle.std.specs.Prelude.{ℕ, ◌+◌, Bool, not, ◌&&◌, Option, None, Some, List, [], ◌∷◌, ◌++◌, nat_le, if◌then◌else◌}
+use Rattle.std.specs.Prelude.{ℕ, ◌+◌, ◌-◌, ◌*◌, Bool, not, ◌&&◌, Option, None, Some, List, [], ◌∷◌, ◌++◌, length, filter, nat_le, if◌then◌else◌}
 use Rattle.cluster_state.specs.Field.{last_number}
-use Rattle.voting_config.specs.Ids.{Id, with_id, without_id}
+use Rattle.voting_config.specs.Ids.{Id, before, has, with_id, without_id}
 use Rattle.cluster_state.specs.declared.state.StateId.{StateId}
 use Rattle.wire_frames.specs.declared.frame.WireMessage.TheVariants as message
 use Rattle.bootstrap.specs.Decisions.{decision_of}
@@ -19,6 +19,7 @@ use Rattle.cluster_state.specs.JoinCheck.{is_empty}
 use Rattle.world_model.specs.Replies.{elects}
 use Rattle.policy_model.specs.declared.settings.Settings.{Settings}
 use Rattle.policy_model.specs.Events.{Item, Notes, Met, ElectionOff, ElectionSet, RoundBegun, RoundAnswered, RoundEnded}
+use Rattle.policy_model.specs.Parts.{election_duration}
 use Rattle.policy_model.specs.Views.{View}
 use Rattle.policy_model.specs.Doing.{is_candidate, leader_of, act_now, send, send_all, may_win, is_voting_only}
 
@@ -41,6 +42,15 @@ module _ (s : Settings) where
   abbrev pub free_nodes : View → List Id
   free_nodes v = with_id s.me (free_set v.finder)
 
+  -- a voter that may lead, is free, and comes before this node by its id
+  abbrev pub comes_first : View → Id → Bool
+  comes_first v id = before id s.me && (has id (free_nodes v) && not (is_voting_only s id))
+
+  -- Nodes lose their leader at one moment. So that they don't all stand for election at once, each leaves those that come first the time of
+  -- an election each, until it takes a commit. A node that has lost no leader waits for nobody.
+  abbrev pub election_rank : View → ℕ
+  election_rank v = if v.lost_leader then length (filter (λ id. comes_first v id) v.node.accepted.config) else 0
+
   -- a round of pre-votes, which a node that is a quorum alone ends at once
   abbrev pub begins_round : View → ℕ → List Item
   begins_round v word =
@@ -49,7 +59,8 @@ module _ (s : Settings) where
 
   abbrev pub waits_until : View → ℕ → Option ℕ → List Item
   waits_until v word None = Notes (ElectionSet word) ∷ []
-  waits_until v word (Some deadline) = if is_due deadline v.moment then begins_round v word else []
+  waits_until v word (Some deadline) =
+      if is_due deadline (v.moment - election_duration * election_rank v) then begins_round v word else []
 
   -- the node is not voting-only, it may win, and the free nodes are a quorum
   abbrev pub may_be_elected : View → Bool

@@ -49,8 +49,8 @@ pub data Note : Type 0 where
   HandedOver : Note
   -- the connection to a node ended: its answer is forgotten, peers are to be asked at once, and it is watched no more
   PeerLost : (id : Id) → Note
-  -- the connection to the leader ended: this is the node's place in line for an election, and peers are asked a little later
-  LeaderLost : (rank : ℕ) → Note
+  -- the connection to the leader ended: peers are asked a little later
+  LeaderLost : Note
 
 pub data Item : Type 0 where
   -- the journal was opened, and held this record

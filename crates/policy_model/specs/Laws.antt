@@ -1,20 +1,25 @@
 -- For the contracts inside: the laws of lives that follow the policy, as statements.
-use Rattle.std.specs.Prelude.{◌≡◌, ℕ, ◌&&◌, [], ◌∷◌, find, if◌then◌else◌}
-use Rattle.voting_config.specs.Ids.{Id, has}
+use Rattle.std.specs.Prelude.{◌≡◌, ℕ, Bool, true, false, ◌&&◌, List, [], ◌∷◌, find, if◌then◌else◌}
+use Rattle.voting_config.specs.Ids.{Id, has, same_config}
 use Rattle.cluster_state.specs.declared.state.StateId.{StateId}
 use Rattle.cluster_state.specs.declared.state.Kept.{Kept}
+use Rattle.cluster_state.specs.declared.state.ClusterState.{ClusterState}
 use Rattle.world_model.specs.declared.acts.Act.TheVariants.{Open}
 use Rattle.world_model.specs.Histories.{IsLocal, ContinuesUnlessFirst}
 use Rattle.world_model.specs.Replies.{elects}
+use Rattle.master_tasks.specs.declared.waiting.Waiting.{Waiting}
+use Rattle.master_tasks.specs.NextState.{may_move, sends_anew}
 use Rattle.policy_model.specs.declared.settings.Settings.{Settings}
 use Rattle.policy_model.specs.Events.{Event, Begins, Notes, ElectionOff, acts_of}
 use Rattle.policy_model.specs.Entries.{Life, Opened, Lived, Did, log_of}
 use Rattle.policy_model.specs.Views.{View, view_of}
 use Rattle.policy_model.specs.Moves.{opened, moved, moved_all}
-use Rattle.policy_model.specs.Doing.{may_win}
+use Rattle.policy_model.specs.Doing.{is_leader, may_win, then_rule, becomes_follower}
+use Rattle.policy_model.specs.Checks.{answers_leader, follows_checker}
+use Rattle.policy_model.specs.Rules.{gives_up, has_timed_out}
 use Rattle.policy_model.specs.Elections.{free_nodes, waits_until, waits_for_election}
 use Rattle.policy_model.specs.Joins.{counts_join, on_join}
-use Rattle.policy_model.specs.NextState.{responders_of, successor_of}
+use Rattle.policy_model.specs.NextState.{responders_of, successor_of, leads_on, makes_state}
 use Rattle.policy_model.specs.Follows.{Follows, items_of}
 
 -- the acts of a life that follows the policy follow each other
@@ -45,3 +50,19 @@ pub record IsWithoutVotingOnly (s : Settings) : Type 0 where
 -- so it is where the list names nobody
 abbrev pub LawNoVotingOnly : Type 0
 LawNoVotingOnly = (s : Settings) → s.voting_only ≡ [] → IsWithoutVotingOnly s
+
+-- the five rules that look at the profile are those of a policy that knows no second one
+pub record IsFirstProfile (s : Settings) : Type 0 where
+  pub checked : (v : View) (p : Id)
+      → follows_checker s v p
+      ≡ (if is_leader v.mode then answers_leader s v p false
+      else then_rule s v (becomes_follower s v p) (λ u. answers_leader s u p true))
+  pub given_up : (v : View) → gives_up s v ≡ has_timed_out v.publication v.moment
+  pub led : (v : View) → leads_on s v ≡ makes_state s v
+  pub wanted : (term : ℕ) (accepted : ClusterState) (committed : List Id)
+      → may_move term accepted committed s.policy ≡ same_config committed accepted.config
+  pub not_anew : (additions : List Id) (waiting : List Waiting) → sends_anew s.policy additions waiting ≡ false
+
+-- so it is where the settings name the first profile
+abbrev pub LawFirstProfile : Type 0
+LawFirstProfile = (s : Settings) → s.policy.second ≡ false → IsFirstProfile s

@@ -1,5 +1,5 @@
 -- Part of the statement: what a node is after what it saw and did: each field is looked up on its own.
-use Rattle.std.specs.Prelude.{ℕ, ◌+◌, max, min, Bool, false, not, ◌&&◌, nat_lt, Option, None, Some, is_some, if◌then◌else◌}
+use Rattle.std.specs.Prelude.{ℕ, ◌+◌, max, min, Bool, true, false, not, ◌&&◌, Option, None, Some, is_some, if◌then◌else◌}
 use Rattle.voting_config.specs.Ids.{Id, same}
 use Rattle.cluster_state.specs.declared.state.StateId.{StateId}
 use Rattle.world_model.specs.declared.acts.Act.TheVariants.{StartJoin, Value, Response, Commit}
@@ -19,7 +19,7 @@ use Rattle.master_tasks.specs.Answering.{without_answered, timed_out, committed_
 use Rattle.master_tasks.specs.NextState.{tasks_after}
 use Rattle.policy_model.specs.declared.settings.Settings.{Settings}
 use Rattle.policy_model.specs.Events.{Mode, Candidate, Leader, Tick, Log, NoItems, And, acts_of, Opens, Begins, Acts, ChangesMode, Drops, Notes, Met, Heard, PeersAsked, ElectionOff, ElectionSet, RoundBegun, RoundAnswered, RoundEnded, Joined, FollowersChecked, FollowerAnswered, LeaderChecked, LeaderAnswered, Queued, ExclusionsTimedOut, CommitAcked, ExclusionsAcked, StateMade, HandedOver, PeerLost, LeaderLost}
-use Rattle.policy_model.specs.Parts.{last_moment, handover_interval, no_peers, met, peers_asked, heard, answers_forgotten, peer_lost, search_held, next_attempt, ranked_deadline, next_deadline, round_begun, round_answered, published_at, responded, finished, no_followers, watched, state_finished, followers_ticked, follower_answered, follower_lost, check_from, leader_ticked, leader_answered, arrived, all_to_be_added, as_master, published_id}
+use Rattle.policy_model.specs.Parts.{last_moment, handover_interval, no_peers, met, peers_asked, heard, answers_forgotten, peer_lost, search_held, next_attempt, first_deadline, next_deadline, round_begun, round_answered, published_at, responded, finished, no_followers, watched, state_finished, followers_ticked, follower_answered, follower_lost, check_from, leader_ticked, leader_answered, arrived, all_to_be_added, as_master, published_id}
 
 -- what the seven acts know
 abbrev pub node_of : Log → NodeState
@@ -54,7 +54,7 @@ finder_of s (And l (Notes (Met ids))) = met (finder_of s l) ids
 finder_of s (And l (Notes (Heard peer master))) = heard (finder_of s l) peer master
 finder_of s (And l (Notes PeersAsked)) = peers_asked (finder_of s l) (moment_of l)
 finder_of s (And l (Notes (PeerLost id))) = peer_lost (finder_of s l) id (moment_of l)
-finder_of s (And l (Notes (LeaderLost rank))) = search_held (finder_of s l) (moment_of l)
+finder_of s (And l (Notes LeaderLost)) = search_held (finder_of s l) (moment_of l)
 finder_of s (And l (ChangesMode Candidate term)) = answers_forgotten (finder_of s l) (moment_of l)
 finder_of s (And l i) = finder_of s l
 
@@ -67,30 +67,27 @@ attempt_of (And l (Notes (RoundBegun word))) = next_attempt (attempt_of l)
 attempt_of (And l (ChangesMode Candidate term)) = 0
 attempt_of (And l i) = attempt_of l
 
--- whether a node with this place in line joins another by this act: it waits anew then, one place later
-abbrev pub yields : Settings → ℕ → Id → Outcome → Bool
-yields s rank candidate o = is_ok o && (nat_lt 0 rank && not (same candidate s.me))
+-- whether the connection to the node's leader has ended, and the node has taken no commit since
+abbrev pub lost_leader_of : Log → Bool
+lost_leader_of NoItems = false
+lost_leader_of (And l (Opens found)) = false
+lost_leader_of (And l (Acts (Commit commit) o)) = if is_ok o then false else lost_leader_of l
+lost_leader_of (And l (Notes LeaderLost)) = true
+lost_leader_of (And l i) = lost_leader_of l
 
--- The place in line of a node that has lost its leader, and one more for each other node that it joined since; 0 where it has lost none, or
--- has taken a commit since. So nothing is ranked before a connection ends.
-abbrev pub election_rank_of : Settings → Log → ℕ
-election_rank_of s NoItems = 0
-election_rank_of s (And l (Opens found)) = 0
-election_rank_of s (And l (Acts (StartJoin candidate term) o)) =
-    if yields s (election_rank_of s l) candidate o then next_attempt (election_rank_of s l) else election_rank_of s l
-election_rank_of s (And l (Acts (Commit commit) o)) = if is_ok o then 0 else election_rank_of s l
-election_rank_of s (And l (Notes (LeaderLost rank))) = rank
-election_rank_of s (And l i) = election_rank_of s l
+-- whether a node that has lost its leader joins another by this act: it ends its own round then, and waits anew
+abbrev pub yields : Settings → Bool → Id → Outcome → Bool
+yields s lost candidate o = is_ok o && (lost && not (same candidate s.me))
 
 -- when the next round of pre-votes begins, in ms, where an election is waited for
 abbrev pub deadline_of : Settings → Log → Option ℕ
 deadline_of s NoItems = None
 deadline_of s (And l (Opens found)) = None
-deadline_of s (And l (Notes (ElectionSet word))) = Some (ranked_deadline (moment_of l) word (election_rank_of s l))
+deadline_of s (And l (Notes (ElectionSet word))) = Some (first_deadline (moment_of l) word)
 deadline_of s (And l (Notes (RoundBegun word))) = Some (next_deadline (moment_of l) (next_attempt (attempt_of l)) word)
 deadline_of s (And l (Notes ElectionOff)) = None
 deadline_of s (And l (Acts (StartJoin candidate term) o)) =
-    if yields s (election_rank_of s l) candidate o then None else deadline_of s l
+    if yields s (lost_leader_of l) candidate o then None else deadline_of s l
 deadline_of s (And l (ChangesMode Candidate term)) = None
 deadline_of s (And l i) = deadline_of s l
 
@@ -101,7 +98,7 @@ round_of s (And l (Opens found)) = None
 round_of s (And l (Notes (RoundBegun word))) = Some (round_begun s.me (node_of l))
 round_of s (And l (Notes (RoundAnswered source term last))) = round_answered (round_of s l) source term last
 round_of s (And l (Notes RoundEnded)) = None
-round_of s (And l (Acts (StartJoin candidate term) o)) = if yields s (election_rank_of s l) candidate o then None else round_of s l
+round_of s (And l (Acts (StartJoin candidate term) o)) = if yields s (lost_leader_of l) candidate o then None else round_of s l
 round_of s (And l (ChangesMode Candidate term)) = None
 round_of s (And l i) = round_of s l
 

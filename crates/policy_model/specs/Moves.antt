@@ -14,7 +14,7 @@ use Rattle.master_tasks.specs.Answering.{without_answered, timed_out, committed_
 use Rattle.master_tasks.specs.NextState.{tasks_after}
 use Rattle.policy_model.specs.declared.settings.Settings.{Settings}
 use Rattle.policy_model.specs.Events.{Mode, Candidate, Leader, Follower, Event, Start, Tick, FrameCame, LineCame, PeerGone, Note, Met, Heard, PeersAsked, ElectionOff, ElectionSet, RoundBegun, RoundAnswered, RoundEnded, Joined, FollowersChecked, FollowerAnswered, LeaderChecked, LeaderAnswered, Queued, ExclusionsTimedOut, CommitAcked, ExclusionsAcked, StateMade, HandedOver, PeerLost, LeaderLost, Item, Opens, Begins, Acts, ChangesMode, Drops, Sends, Replies, Notes, Log, And}
-use Rattle.policy_model.specs.Parts.{last_moment, handover_interval, no_peers, met, peers_asked, heard, answers_forgotten, peer_lost, search_held, next_attempt, ranked_deadline, next_deadline, round_begun, round_answered, published_at, responded, finished, no_followers, watched, state_finished, followers_ticked, follower_answered, follower_lost, check_from, leader_ticked, leader_answered, arrived, all_to_be_added, as_master, published_id}
+use Rattle.policy_model.specs.Parts.{last_moment, handover_interval, no_peers, met, peers_asked, heard, answers_forgotten, peer_lost, search_held, next_attempt, first_deadline, next_deadline, round_begun, round_answered, published_at, responded, finished, no_followers, watched, state_finished, followers_ticked, follower_answered, follower_lost, check_from, leader_ticked, leader_answered, arrived, all_to_be_added, as_master, published_id}
 use Rattle.policy_model.specs.LookBacks.{sends_one, yields}
 use Rattle.policy_model.specs.Views.{View, view_of}
 
@@ -27,7 +27,7 @@ opened s found = record {
   moment = 0;
   finder = no_peers s.me;
   deadline = None;
-  election_rank = 0;
+  lost_leader = false;
   attempt = 0;
   round = None;
   publication = None;
@@ -47,9 +47,8 @@ begun v event = v
 abbrev pub acted : Settings → View → Act → Outcome → View
 acted s v (StartJoin candidate term) o = record v {
   node = node_state_after v.node (StartJoin candidate term) o;
-  election_rank = (if yields s v.election_rank candidate o then next_attempt v.election_rank else v.election_rank);
-  deadline = (if yields s v.election_rank candidate o then None else v.deadline);
-  round = (if yields s v.election_rank candidate o then None else v.round);
+  deadline = (if yields s v.lost_leader candidate o then None else v.deadline);
+  round = (if yields s v.lost_leader candidate o then None else v.round);
 }
 acted s v (Value version config value) o = record v {
   node = node_state_after v.node (Value version config value) o;
@@ -64,7 +63,7 @@ acted s v (Response response) o = record v {
 acted s v (Commit commit) o = record v {
   node = node_state_after v.node (Commit commit) o;
   publication = (if is_ok o then finished v.publication else v.publication);
-  election_rank = (if is_ok o then 0 else v.election_rank);
+  lost_leader = (if is_ok o then false else v.lost_leader);
   applied = (if is_ok o then id_of v.node.accepted else v.applied);
   followers = (if is_ok o then state_finished v.publication v.followers (id_of v.node.accepted) v.moment else v.followers);
 }
@@ -91,7 +90,7 @@ noted s v (Met ids) = record v { finder = met v.finder ids }
 noted s v (Heard peer master) = record v { finder = heard v.finder peer master }
 noted s v PeersAsked = record v { finder = peers_asked v.finder v.moment }
 noted s v ElectionOff = record v { deadline = None }
-noted s v (ElectionSet word) = record v { attempt = 0; deadline = Some (ranked_deadline v.moment word v.election_rank) }
+noted s v (ElectionSet word) = record v { attempt = 0; deadline = Some (first_deadline v.moment word) }
 noted s v (RoundBegun word) = record v {
   attempt = next_attempt v.attempt;
   deadline = Some (next_deadline v.moment (next_attempt v.attempt) word);
@@ -110,7 +109,7 @@ noted s v CommitAcked = record v { tasks = without_answered (committed_in (publi
 noted s v ExclusionsAcked = record v { tasks = without_answered (exclusion_done v.node.committed (id_of v.node.accepted)) v.tasks }
 noted s v StateMade = record v { tasks = tasks_after (as_master s v.node) v.tasks }
 noted s v HandedOver = record v { handover_due = v.moment + handover_interval }
-noted s v (LeaderLost rank) = record v { finder = search_held v.finder v.moment; election_rank = rank }
+noted s v LeaderLost = record v { finder = search_held v.finder v.moment; lost_leader = true }
 noted s v (PeerLost id) = record v { finder = peer_lost v.finder id v.moment; followers = follower_lost v.followers id }
 
 abbrev pub moved : Settings → View → Item → View
@@ -179,4 +178,4 @@ view_of-And s l (Notes ExclusionsAcked) h = refl
 view_of-And s l (Notes StateMade) h = refl
 view_of-And s l (Notes HandedOver) h = refl
 view_of-And s l (Notes (PeerLost id)) h = refl
-view_of-And s l (Notes (LeaderLost rank)) h = refl
+view_of-And s l (Notes LeaderLost) h = refl

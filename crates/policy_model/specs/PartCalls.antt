@@ -13,7 +13,7 @@ use Rattle.world_model.specs.Acts.{is_ok}
 use Rattle.policy_model.specs.declared.settings.Settings.{Settings}
 use Rattle.policy_model.specs.Events.{Candidate, Follower, Log, NoItems, And, Opens, Acts, ChangesMode, Notes, Met, Heard, PeersAsked, RoundBegun, RoundAnswered, RoundEnded, FollowersChecked, FollowerAnswered, LeaderChecked, LeaderAnswered, PeerLost, LeaderLost}
 use Rattle.policy_model.specs.Parts.{loss_grace}
-use Rattle.policy_model.specs.LookBacks.{node_of, moment_of, sends_one, yields, election_rank_of}
+use Rattle.policy_model.specs.LookBacks.{node_of, moment_of, sends_one, yields, lost_leader_of}
 
 -- of the peer finder, since the opening: who was met, who answered, when peers were asked, when a connection ended, when the node became a candidate
 abbrev pub with_added : finder.Calls → List Id → finder.Calls
@@ -27,7 +27,7 @@ finder_calls s (And l (Notes (Met ids))) = with_added (finder_calls s l) ids
 finder_calls s (And l (Notes (Heard peer master))) = finder.Then (finder_calls s l) (finder.Answered peer master)
 finder_calls s (And l (Notes PeersAsked)) = finder.Then (finder_calls s l) (finder.Asked (moment_of l))
 finder_calls s (And l (Notes (PeerLost id))) = finder.Then (finder_calls s l) (finder.Disconnected id (moment_of l))
-finder_calls s (And l (Notes (LeaderLost rank))) = finder.Then (finder_calls s l) (finder.Held (moment_of l) loss_grace)
+finder_calls s (And l (Notes LeaderLost)) = finder.Then (finder_calls s l) (finder.Held (moment_of l) loss_grace)
 finder_calls s (And l (ChangesMode Candidate term)) = finder.Then (finder_calls s l) (finder.AnswersForgotten (moment_of l))
 finder_calls s (And l i) = finder_calls s l
 
@@ -39,7 +39,7 @@ round_calls s (And l (Notes (RoundBegun word))) = Some (pre_vote.Start s.me (id_
 round_calls s (And l (Notes (RoundAnswered source term last))) =
     option_map (λ calls. pre_vote.Add calls source term last) (round_calls s l)
 round_calls s (And l (Notes RoundEnded)) = None
-round_calls s (And l (Acts (StartJoin candidate term) o)) = if yields s (election_rank_of s l) candidate o then None else round_calls s l
+round_calls s (And l (Acts (StartJoin candidate term) o)) = if yields s (lost_leader_of l) candidate o then None else round_calls s l
 round_calls s (And l (ChangesMode Candidate term)) = None
 round_calls s (And l i) = round_calls s l
 

@@ -1,5 +1,5 @@
 -- Part of the statement: what is made of the parts of a node, in the words of each part.
-use Rattle.std.specs.Prelude.{ℕ, ◌+◌, ◌-◌, ◌*◌, ◌^◌, min, Bool, Option, None, Some, List, [], ◌∷◌, if◌then◌else◌}
+use Rattle.std.specs.Prelude.{ℕ, ◌+◌, ◌^◌, min, Bool, Option, None, Some, List, [], ◌∷◌, if◌then◌else◌}
 use Rattle.voting_config.specs.Ids.{Id, without_id}
 use Rattle.cluster_state.specs.declared.state.StateId.{StateId}
 use Rattle.cluster_state.specs.declared.request.Request.{Request}
@@ -34,7 +34,7 @@ handover_interval = 1000
 
 -- how long after it has lost its leader a node asks its peers, in ms: the others are to have lost it too
 abbrev pub loss_grace : ℕ
-loss_grace = 50
+loss_grace = 100
 
 -- the peers of a node that has met nobody
 abbrev pub no_peers : Id → PeerFinder
@@ -67,11 +67,6 @@ next_attempt attempt = min (attempt + 1) most_attempts
 -- the first deadline of an election, and one after an attempt has begun
 abbrev pub first_deadline : ℕ → ℕ → ℕ
 first_deadline now word = now + delay_of 0 word
-
--- Nodes lose their leader at one moment. So that they don't all stand for election at once, each has a place in line, counted from 1, and
--- leaves those before it the time of theirs. Place 0 is no place: such a node waits for nobody, as the first one does.
-abbrev pub ranked_deadline : ℕ → ℕ → ℕ → ℕ
-ranked_deadline now word rank = first_deadline now word + election_duration * (rank - 1)
 
 abbrev pub next_deadline : ℕ → ℕ → ℕ → ℕ
 next_deadline now attempt word = now + delay_of attempt word + election_duration
@@ -148,7 +143,7 @@ all_to_be_added t (id ∷ ids) = all_to_be_added (to_be_added t id) ids
 
 -- the node as the master that makes the next state
 abbrev pub as_master : Settings → NodeState → NextMaster
-as_master s node = next_master s.me node.term node.accepted node.committed node.join_votes s.shrink
+as_master s node = next_master s.me node.term node.accepted node.committed node.join_votes s.policy
 
 -- the id of the last published state
 abbrev pub published_id : NodeState → StateId

@@ -1,5 +1,5 @@
 -- Part of the statement: what a node does at an event: one rule after another, by the event and the mode.
-use Rattle.std.specs.Prelude.{ℕ, Bool, true, false, Option, None, Some, List, [], if◌then◌else◌}
+use Rattle.std.specs.Prelude.{ℕ, Bool, true, false, ◌&&◌, ◌||◌, Option, None, Some, List, [], if◌then◌else◌}
 use Rattle.voting_config.specs.Ids.{Id, same}
 use Rattle.wire_frames.specs.declared.frame.Frame.{Frame}
 use Rattle.wire_frames.specs.declared.frame.WireMessage.{WireMessage}
@@ -11,8 +11,8 @@ use Rattle.publication.specs.Publications.{Publication, stage_of}
 use Rattle.policy_model.specs.declared.settings.Settings.{Settings}
 use Rattle.policy_model.specs.Events.{Mode, Candidate, Leader, Follower, Event, Start, Tick, FrameCame, LineCame, PeerGone, Item}
 use Rattle.policy_model.specs.Views.{View}
-use Rattle.policy_model.specs.Doing.{then_rule, becomes_candidate, on_start_join}
-use Rattle.policy_model.specs.NextState.{goes_on}
+use Rattle.policy_model.specs.Doing.{is_second, then_rule, becomes_candidate, on_start_join}
+use Rattle.policy_model.specs.NextState.{goes_on, is_hopeless}
 use Rattle.policy_model.specs.Elections.{bootstraps, waits_for_election, on_pre_vote_ask, on_pre_vote_answer, on_pre_vote_refuse}
 use Rattle.policy_model.specs.Discovery.{meets_first, asks_peers, on_peers_ask, on_peers_answer}
 use Rattle.policy_model.specs.Joins.{on_join, on_join_ask}
@@ -32,13 +32,17 @@ has_timed_out None now = false
 has_timed_out (Some p) now = is_failed (stage_of p now)
 
 module _ (s : Settings) where
+  -- the publication is given up
+  abbrev pub gives_up : View → Bool
+  gives_up v = has_timed_out v.publication v.moment || (is_second s && is_hopeless v v.publication)
+
   abbrev pub ticks_candidate : View → ℕ → List Item
   ticks_candidate v word =
       then_rule s v (then_rule s v (bootstraps s v) (asks_peers s)) (λ v'. waits_for_election s v' word)
 
   abbrev pub ticks_leader : View → List Item
   ticks_leader v =
-      if has_timed_out v.publication v.moment then becomes_candidate s v
+      if gives_up v then becomes_candidate s v
       else then_rule s v (then_rule s v (times_out_exclusions s v) (checks_followers s)) (goes_on s)
 
   abbrev pub ticks : View → ℕ → Mode → List Item

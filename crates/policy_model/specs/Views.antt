@@ -10,7 +10,7 @@ use Rattle.fault_checks.specs.Leaders.{LeaderCheck}
 use Rattle.master_tasks.specs.Queue.{Tasks}
 use Rattle.policy_model.specs.declared.settings.Settings.{Settings}
 use Rattle.policy_model.specs.Events.{Mode, Log}
-use Rattle.policy_model.specs.LookBacks.{node_of, mode_of, leader_term_of, moment_of, finder_of, deadline_of, election_rank_of, attempt_of, round_of, publication_of, applied_of, followers_of, leader_check_of, tasks_of, handover_due_of}
+use Rattle.policy_model.specs.LookBacks.{node_of, mode_of, leader_term_of, moment_of, finder_of, deadline_of, lost_leader_of, attempt_of, round_of, publication_of, applied_of, followers_of, leader_check_of, tasks_of, handover_due_of}
 
 pub record View : Type 0 where
   pub node : NodeState
@@ -19,7 +19,7 @@ pub record View : Type 0 where
   pub moment : ℕ
   pub finder : PeerFinder
   pub deadline : Option ℕ
-  pub election_rank : ℕ
+  pub lost_leader : Bool
   pub attempt : ℕ
   pub round : Option Round
   pub publication : Option Publication
@@ -37,7 +37,7 @@ view_of s l = record {
   moment = moment_of l;
   finder = finder_of s l;
   deadline = deadline_of s l;
-  election_rank = election_rank_of s l;
+  lost_leader = lost_leader_of l;
   attempt = attempt_of l;
   round = round_of s l;
   publication = publication_of l;

@@ -1,5 +1,5 @@
 //! What holds of each life that follows the policy. The calls do nothing: what they promise is proved.
-ghost use Rattle.policy_model.specs.Laws.{LawEventMoves, LawLifeIsLocal, LawNoVotingOnly, LawOpeningMoves};
+ghost use Rattle.policy_model.specs.Laws.{LawEventMoves, LawLifeIsLocal, LawFirstProfile, LawNoVotingOnly, LawOpeningMoves};
 ghost use Rattle.policy_model.specs.Bounds.{EventHoldsSet, LawAnswersFew, LawEventIsShort, LawOpenedIsSmall, LawSendsFew, LawStruckIsShort};
 ghost use Rattle.policy_model.specs.Fitting.{EventHoldsSettings, LawOpenedIsFit, LawStaysFit};
 
@@ -26,6 +26,11 @@ pub fn law_opening_moves()
 /// knows no such nodes.
 pub fn law_no_voting_only()
     ensures { LawNoVotingOnly }
+{}
+
+/// Where the settings name the first profile, all rules are those of a policy that knows no second one.
+pub fn law_first_profile()
+    ensures { LawFirstProfile }
 {}
 
 /// A node that is within the limits and to which a frame within the limits comes, or anything else, sends frames

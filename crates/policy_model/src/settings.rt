@@ -1,4 +1,5 @@
 //! What a node knows before its start: its id, its peers, the first voters, and who votes and never leads.
+use master_tasks::Policy;
 use std::marker::Model;
 use voting_config::{NodeId, NodeSet};
 
@@ -50,6 +51,6 @@ pub struct Settings {
     /// The nodes that this one takes for voting-only, as the role `voting_only` has it: it asks none of them to be elected, and
     /// where it is one itself it never is.
     pub voting_only: NodeSet,
-    /// Whether the voting configuration may shrink (`cluster.auto_shrink_voting_configuration`).
-    pub shrink: bool,
+    /// How it makes states as a leader, and by which profile of the policy it goes.
+    pub policy: Policy,
 }

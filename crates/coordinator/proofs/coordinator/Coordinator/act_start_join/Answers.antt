@@ -9,8 +9,8 @@ use Rattle.coordinator.proofs.coordinator.Coordinator.act_start_join.Goals as go
 pub returns-clause-does : goal.returns-clause-does
 returns-clause-does g c =
     ends_act g.K.Keeper c.args.self.now _ (act.StartJoin c.args.candidate c.args.term) _ c.outcome_of-outcome.result c.verdict-verdict.result _ _ c.requires.ready (record { acts = c.start_join.ensures.act; wrote = c.start_join.ensures.wrote; any_moment = c.start_join.ensures.any_moment; told = subst IsReported c.outcome_of-outcome.ensures.value c.outcome_of-outcome.ensures.told }) c.outcome_of-outcome.ensures.value c.outcome_of-outcome.ensures.told refl refl
-    (ap (λ (n : NodeState). record (view_in g.K.Keeper c.args.self.now) { node = n; election_rank = c.wait_anew.new.rank; deadline = c.wait_anew.new.deadline; round = c.wait_anew.new.round }) c.start_join.ensures.act.at.after
-    ∙ rw (c.wait_anew.ensures.rank, c.wait_anew.ensures.deadline, c.wait_anew.ensures.round, c.yields.ensures, c.outcome_of-outcome.ensures.value) refl)
+    (ap (λ (n : NodeState). record (view_in g.K.Keeper c.args.self.now) { node = n; deadline = c.wait_anew.new.deadline; round = c.wait_anew.new.round }) c.start_join.ensures.act.at.after
+    ∙ rw (c.wait_anew.ensures.deadline, c.wait_anew.ensures.round, c.yields.ensures, c.outcome_of-outcome.ensures.value) refl)
     c.act.ensures.shown c.verdict-verdict.ensures
 
 pub returns-clause-taken : goal.returns-clause-taken

@@ -15,4 +15,4 @@ go_on-requires-clause-plan g c =
 
 pub returns : goal.returns
 returns g c =
-    record { does = ticks_gone g.K.Keeper c.args.self.now c.tick_members.new.self c.go_on.new.self _ _ _ _ c.in-Ok-make_room.ensures.shown (sym c.has_timed_out.ensures ∙ c.if-has_timed_out.false) c.tick_members.ensures.does c.go_on.ensures.does }
+    record { does = ticks_gone g.K.Keeper c.args.self.now c.tick_members.new.self c.go_on.new.self _ _ _ _ c.in-Ok-make_room.ensures.shown (sym c.gives_up.ensures ∙ c.if-gives_up.false) c.tick_members.ensures.does c.go_on.ensures.does }

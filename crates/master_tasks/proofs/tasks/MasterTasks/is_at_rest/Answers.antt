@@ -6,6 +6,6 @@ use Rattle.master_tasks.proofs.tasks.MasterTasks.is_at_rest.Goals as goal
 
 pub returns : goal.returns
 returns c = λ h.
-    let l : Leader = leader_of c.args.me c.args.term c.args.accepted.now c.args.committed.now c.args.votes.now c.args.shrink in
+    let l : Leader = leader_of c.args.me c.args.term c.args.accepted.now c.args.committed.now c.args.votes.now c.args.policy in
     subst (λ (t : Tasks). IsAtRest l t) (sym (c.is_idle.ensures c.if-not-is_idle.false))
     (at_rest l (c.is_master.ensures c.if-not-is_master.false) (c.accepted_stays.ensures h))

@@ -1,4 +1,4 @@
-use Rattle.std.proofs.Common.{◌≡◌, ◌∙◌, ap, sym, subst, refl, true, false, List, [], arith}
+use Rattle.std.proofs.Common.{◌≡◌, ◌∙◌, ap, sym, subst, refl, true, false, not, ◌&&◌, List, [], arith}
 use Rattle.cluster_state.specs.declared.state.ClusterValue.{ClusterValue}
 use Rattle.cluster_state.specs.States.{IsFitValue, id_of}
 use Rattle.cluster_state.proofs.JsonLaws.{ascending_keys}
@@ -8,22 +8,22 @@ use Rattle.master_tasks.specs.declared.waiting.Waiting.{Waiting}
 use Rattle.master_tasks.specs.Replying.{with_sent}
 use Rattle.master_tasks.specs.Fitting.{HaveGoodSettings}
 use Rattle.master_tasks.specs.Answering.{answers_by, left_by, nothing_new}
-use Rattle.master_tasks.specs.NextState.{Leader, leader_of, is_accepted}
+use Rattle.master_tasks.specs.NextState.{Leader, leader_of, is_accepted, sends_anew}
 use Rattle.master_tasks.specs.declared.next.Next.TheVariants.{Same}
 use Rattle.master_tasks.proofs.Making.{Made, made, waiting_new, next_new, waiting_same, next_same}
 use Rattle.master_tasks.proofs.tasks.MasterTasks.prepare.Goals as goal
 
 -- what was made, where the state is new
-abbrev new_leader : goal.Else-is_accepted → Leader
-new_leader c = leader_of c.args.me c.args.term c.args.accepted.now c.args.committed.now c.args.votes.now c.args.shrink
+abbrev new_leader : goal.Else-is_nothing_new → Leader
+new_leader c = leader_of c.args.me c.args.term c.args.accepted.now c.args.committed.now c.args.votes.now c.args.policy
 
-made_new : (c : goal.Else-is_accepted) → Made (new_leader c) c.args.self.now c.process.new.value c.in_ok-waiting.field-0.waiting.items c.in_ok-waiting.field-0.replies c.in_ok-config.config
+made_new : (c : goal.Else-is_nothing_new) → Made (new_leader c) c.args.self.now c.process.new.value c.in_ok-waiting.field-0.waiting.items c.in_ok-waiting.field-0.replies c.in_ok-config.config
 made_new c =
     made (new_leader c) c.args.self.now c.in_ok-value.value _ _ _ _
     (rw c.deref-state.ensures at c.in_ok-value.ensures) c.in_ok-waiting.ensures.value c.in_ok-waiting.ensures.waiting c.in_ok-waiting.ensures.replies (rw c.deref-state.ensures at c.in_ok-config.ensures)
 
-is_new : (c : goal.Else-is_accepted) → false ≡ is_accepted c.args.term c.args.accepted.now c.in_ok-config.config c.process.new.value
-is_new c = rw c.deref-state.ensures at (sym c.if-is_accepted.false ∙ c.is_accepted.ensures)
+is_new : (c : goal.Else-is_nothing_new) → false ≡ (not (sends_anew c.args.policy c.args.self.now) && is_accepted c.args.term c.args.accepted.now c.in_ok-config.config c.process.new.value)
+is_new c = rw c.deref-state.ensures at (sym c.if-is_nothing_new.false ∙ c.is_nothing_new.ensures)
 
 pub returns-clause-waiting : goal.returns-clause-waiting
 returns-clause-waiting c = waiting_new (new_leader c) c.args.self.now _ _ _ _ (made_new c) (is_new c)
@@ -46,36 +46,36 @@ returns-clause-good c = λ good.
     subst P (sym (returns-clause-waiting c)) (good_waiting (new_leader c) c.args.self.now good)
 
 -- what was made, where nothing is new
-abbrev same_leader : goal.After-drop-value-then-is_accepted-3 → Leader
-same_leader c = leader_of c.args.me c.args.term c.args.accepted.now c.args.committed.now c.args.votes.now c.args.shrink
+abbrev same_leader : goal.After-drop-value-then-is_nothing_new-3 → Leader
+same_leader c = leader_of c.args.me c.args.term c.args.accepted.now c.args.committed.now c.args.votes.now c.args.policy
 
-made_same : (c : goal.After-drop-value-then-is_accepted-3) → Made (same_leader c) c.args.self.now c.process.new.value c.in_ok-waiting.field-0.waiting.items c.in_ok-waiting.field-0.replies c.in_ok-config.config
+made_same : (c : goal.After-drop-value-then-is_nothing_new-3) → Made (same_leader c) c.args.self.now c.process.new.value c.in_ok-waiting.field-0.waiting.items c.in_ok-waiting.field-0.replies c.in_ok-config.config
 made_same c =
     made (same_leader c) c.args.self.now c.in_ok-value.value _ _ _ _
     (rw c.deref-state.ensures at c.in_ok-value.ensures) c.in_ok-waiting.ensures.value c.in_ok-waiting.ensures.waiting c.in_ok-waiting.ensures.replies (rw c.deref-state.ensures at c.in_ok-config.ensures)
 
-is_same : (c : goal.After-drop-value-then-is_accepted-3) → true ≡ is_accepted c.args.term c.args.accepted.now c.in_ok-config.config c.process.new.value
-is_same c = rw c.deref-state.ensures at (sym c.if-is_accepted.true ∙ c.is_accepted.ensures)
+is_same : (c : goal.After-drop-value-then-is_nothing_new-3) → true ≡ (not (sends_anew c.args.policy c.args.self.now) && is_accepted c.args.term c.args.accepted.now c.in_ok-config.config c.process.new.value)
+is_same c = rw c.deref-state.ensures at (sym c.if-is_nothing_new.true ∙ c.is_nothing_new.ensures)
 
-pub returns-then-is_accepted-clause-waiting : goal.returns-then-is_accepted-clause-waiting
-returns-then-is_accepted-clause-waiting c =
+pub returns-then-is_nothing_new-clause-waiting : goal.returns-then-is_nothing_new-clause-waiting
+returns-then-is_nothing_new-clause-waiting c =
     let waiting = c.in_ok-waiting.field-0.waiting.items in
     let committed = c.args.committed.now in
     c.answer_by.ensures.left
     ∙ ap (λ (id : StateId). left_by (nothing_new committed id) waiting) (c.id.ensures ∙ ap id_of c.deref-state.ensures)
     ∙ waiting_same (same_leader c) c.args.self.now _ _ _ _ (made_same c) (is_same c)
 
-pub returns-then-is_accepted-clause-next : goal.returns-then-is_accepted-clause-next
-returns-then-is_accepted-clause-next c =
+pub returns-then-is_nothing_new-clause-next : goal.returns-then-is_nothing_new-clause-next
+returns-then-is_nothing_new-clause-next c =
     let waiting = c.in_ok-waiting.field-0.waiting.items in
     let committed = c.args.committed.now in
     ap Same (c.answer_by.ensures.sent ∙ ap (λ (id : StateId). with_sent c.in_ok-waiting.field-0.replies (answers_by (nothing_new committed id) waiting)) (c.id.ensures ∙ ap id_of c.deref-state.ensures))
     ∙ next_same (same_leader c) c.args.self.now _ _ _ _ (made_same c) (is_same c)
 
-pub returns-then-is_accepted-clause-few : goal.returns-then-is_accepted-clause-few
-returns-then-is_accepted-clause-few c = omega (arith, c.answer_by.ensures.few, c.in_ok-waiting.ensures.few)
+pub returns-then-is_nothing_new-clause-few : goal.returns-then-is_nothing_new-clause-few
+returns-then-is_nothing_new-clause-few c = omega (arith, c.answer_by.ensures.few, c.in_ok-waiting.ensures.few)
 
-pub returns-then-is_accepted-clause-good : goal.returns-then-is_accepted-clause-good
-returns-then-is_accepted-clause-good c = λ good.
+pub returns-then-is_nothing_new-clause-good : goal.returns-then-is_nothing_new-clause-good
+returns-then-is_nothing_new-clause-good c = λ good.
     let P : List Waiting → Type 0 = HaveGoodSettings in
-    subst P (sym (returns-then-is_accepted-clause-waiting c)) (good_waiting (same_leader c) c.args.self.now good)
+    subst P (sym (returns-then-is_nothing_new-clause-waiting c)) (good_waiting (same_leader c) c.args.self.now good)

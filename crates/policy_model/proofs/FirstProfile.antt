@@ -1,0 +1,31 @@
+-- In the first profile the rules are those of a policy that knows no second one.
+use Rattle.std.proofs.Common.{◌≡◌, ℕ, Bool, true, false, ◌&&◌, ◌||◌, List, refl}
+use Rattle.std.specs.Prelude.{nat_lt, length}
+use Rattle.voting_config.specs.Ids.{Id, same_config}
+use Rattle.cluster_state.specs.declared.state.ClusterState.{ClusterState}
+use Rattle.master_tasks.specs.Queue.{Tasks}
+use Rattle.policy_model.specs.declared.settings.Settings.{Settings}
+use Rattle.policy_model.specs.Views.{View}
+use Rattle.policy_model.specs.Rules.{has_timed_out}
+use Rattle.policy_model.specs.Laws.{IsFirstProfile}
+
+or_no : (x : Bool) → (x || false) ≡ x
+or_no true = refl
+or_no false = refl
+
+and_yes : (x : Bool) → (x && true) ≡ x
+and_yes true = refl
+and_yes false = refl
+
+and_no : (x : Bool) → (x && false) ≡ false
+and_no true = refl
+and_no false = refl
+
+pub first_profile : (s : Settings) → s.policy.second ≡ false → IsFirstProfile s
+first_profile s h = record {
+  checked = λ v p. rw h refl;
+  given_up = λ v. rw h (or_no (has_timed_out v.publication v.moment));
+  led = λ v. rw h refl;
+  wanted = λ term accepted committed. rw h (and_yes (same_config committed accepted.config));
+  not_anew = λ t. rw h (and_no (nat_lt 0 (length t.additions)));
+}
