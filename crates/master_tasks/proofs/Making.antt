@@ -38,10 +38,18 @@ made l t before value waiting replies config is value_is waiting_is replies_are 
       config_is = config_is ∙ ap (config_for l.me l.term l.accepted l.committed l.votes l.policy) value_next;
     }
 
-nothing_new_is : (l : Leader) (t : Tasks) (value : ClusterValue) (waiting : List Waiting) (replies : Replies) (config : List Id) (b : Bool) → Made l t value waiting replies config → b ≡ (not (sends_anew l.policy t) && is_accepted l.term l.accepted config value) → is_nothing_new l t ≡ b
+-- whether no state comes of what was made
+abbrev pub is_old : Leader → Tasks → List Waiting → List Id → ClusterValue → Bool
+is_old l t waiting config value = not (sends_anew l.policy t.additions waiting) && is_accepted l.term l.accepted config value
+
+nothing_new_is : (l : Leader) (t : Tasks) (value : ClusterValue) (waiting : List Waiting) (replies : Replies) (config : List Id) (b : Bool) → Made l t value waiting replies config → b ≡ is_old l t waiting config value → is_nothing_new l t ≡ b
 unfolding is_nothing_new
 nothing_new_is l t value waiting replies config b m is =
-    sym (is ∙ ap (λ (c : List Id). not (sends_anew l.policy t) && is_accepted l.term l.accepted c value) m.config_is ∙ ap (λ (v : ClusterValue). not (sends_anew l.policy t) && is_accepted l.term l.accepted (next_config l t) v) m.value_is)
+    sym
+    (is
+    ∙ ap (λ (ws : List Waiting). is_old l t ws config value) m.waiting_is
+    ∙ ap (λ (c : List Id). is_old l t (processed_by l t).waiting c value) m.config_is
+    ∙ ap (λ (v : ClusterValue). is_old l t (processed_by l t).waiting (next_config l t) v) m.value_is)
 
 abbrev the_replies : List Outgoing → ℕ → Replies
 the_replies sent room = record { sent = sent; room = room }
@@ -74,12 +82,12 @@ unfolding next_of next_replies next_answers
 next_is l t b h = ap (next_if l t) h
 
 -- there is a new state
-pub waiting_new : (l : Leader) (t : Tasks) (value : ClusterValue) (waiting : List Waiting) (replies : Replies) (config : List Id) → Made l t value waiting replies config → false ≡ (not (sends_anew l.policy t) && is_accepted l.term l.accepted config value)
+pub waiting_new : (l : Leader) (t : Tasks) (value : ClusterValue) (waiting : List Waiting) (replies : Replies) (config : List Id) → Made l t value waiting replies config → false ≡ is_old l t waiting config value
     → waiting ≡ waiting_after l t
 waiting_new l t value waiting replies config m is =
     m.waiting_is ∙ sym (waiting_are l t false (nothing_new_is l t value waiting replies config false m is))
 
-pub next_new : (l : Leader) (t : Tasks) (value : ClusterValue) (waiting : List Waiting) (replies : Replies) (config : List Id) → Made l t value waiting replies config → false ≡ (not (sends_anew l.policy t) && is_accepted l.term l.accepted config value)
+pub next_new : (l : Leader) (t : Tasks) (value : ClusterValue) (waiting : List Waiting) (replies : Replies) (config : List Id) → Made l t value waiting replies config → false ≡ is_old l t waiting config value
     → New config value replies ≡ next_of l t
 next_new l t value waiting replies config m is =
     ap (λ (c : List Id). New c value replies) m.config_is
@@ -88,12 +96,12 @@ next_new l t value waiting replies config m is =
     ∙ sym (next_is l t false (nothing_new_is l t value waiting replies config false m is))
 
 -- nothing is new
-pub waiting_same : (l : Leader) (t : Tasks) (value : ClusterValue) (waiting : List Waiting) (replies : Replies) (config : List Id) → Made l t value waiting replies config → true ≡ (not (sends_anew l.policy t) && is_accepted l.term l.accepted config value)
+pub waiting_same : (l : Leader) (t : Tasks) (value : ClusterValue) (waiting : List Waiting) (replies : Replies) (config : List Id) → Made l t value waiting replies config → true ≡ is_old l t waiting config value
     → unacked l waiting ≡ waiting_after l t
 waiting_same l t value waiting replies config m is =
     ap (λ (ws : List Waiting). unacked l ws) m.waiting_is ∙ sym (waiting_are l t true (nothing_new_is l t value waiting replies config true m is))
 
-pub next_same : (l : Leader) (t : Tasks) (value : ClusterValue) (waiting : List Waiting) (replies : Replies) (config : List Id) → Made l t value waiting replies config → true ≡ (not (sends_anew l.policy t) && is_accepted l.term l.accepted config value)
+pub next_same : (l : Leader) (t : Tasks) (value : ClusterValue) (waiting : List Waiting) (replies : Replies) (config : List Id) → Made l t value waiting replies config → true ≡ is_old l t waiting config value
     → Same (with_sent replies (acks l waiting)) ≡ next_of l t
 next_same l t value waiting replies config m is =
     ap Same

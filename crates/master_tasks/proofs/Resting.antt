@@ -31,7 +31,7 @@ unfolding next_value processed_by
 value_stays l is = before_stays l.me l.accepted.value is
 
 nothing_is_new : (l : Leader) → l.accepted.value.master ≡ Some l.me → is_accepted l.term l.accepted (config_for l.me l.term l.accepted l.committed l.votes l.policy l.accepted.value) l.accepted.value ≡ true → is_nothing_new l no_tasks ≡ true
-unfolding is_nothing_new next_config
+unfolding is_nothing_new next_config processed_by
 nothing_is_new l is stays =
     ap (λ (v : ClusterValue). is_accepted l.term l.accepted (config_for l.me l.term l.accepted l.committed l.votes l.policy v) v) (value_stays l is) ∙ stays
 

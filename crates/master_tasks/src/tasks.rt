@@ -340,7 +340,8 @@ impl MasterTasks {
     /// members that are to go leave it, but never the node itself; members that are to come join it as far as there
     /// is room, the node itself first; and the requests that were not processed yet are processed from the first on, each
     /// on the value so far. Where that is the accepted value and configuration, in the current term, it is `Same`, and
-    /// what waits is acknowledged; but in the second profile it is `New` where anybody is to come, or a put, a remove or a clear waits. The tasks stay as they are: [`MasterTasks::leave_only`] takes over who waits on.
+    /// what waits is acknowledged; but in the second profile it is `New` where anybody is to come, or a put, a remove or
+    /// a clear waits. The tasks stay as they are: [`MasterTasks::leave_only`] takes over who waits on.
     pub fn prepare(
         &self,
         me: NodeId,

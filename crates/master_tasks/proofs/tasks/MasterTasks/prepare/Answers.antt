@@ -1,4 +1,4 @@
-use Rattle.std.proofs.Common.{◌≡◌, ◌∙◌, ap, sym, subst, refl, true, false, not, ◌&&◌, List, [], arith}
+use Rattle.std.proofs.Common.{◌≡◌, ◌∙◌, ap, sym, subst, refl, true, false, List, [], arith}
 use Rattle.cluster_state.specs.declared.state.ClusterValue.{ClusterValue}
 use Rattle.cluster_state.specs.States.{IsFitValue, id_of}
 use Rattle.cluster_state.proofs.JsonLaws.{ascending_keys}
@@ -8,9 +8,9 @@ use Rattle.master_tasks.specs.declared.waiting.Waiting.{Waiting}
 use Rattle.master_tasks.specs.Replying.{with_sent}
 use Rattle.master_tasks.specs.Fitting.{HaveGoodSettings}
 use Rattle.master_tasks.specs.Answering.{answers_by, left_by, nothing_new}
-use Rattle.master_tasks.specs.NextState.{Leader, leader_of, is_accepted, sends_anew}
+use Rattle.master_tasks.specs.NextState.{Leader, leader_of}
 use Rattle.master_tasks.specs.declared.next.Next.TheVariants.{Same}
-use Rattle.master_tasks.proofs.Making.{Made, made, waiting_new, next_new, waiting_same, next_same}
+use Rattle.master_tasks.proofs.Making.{Made, is_old, made, waiting_new, next_new, waiting_same, next_same}
 use Rattle.master_tasks.proofs.tasks.MasterTasks.prepare.Goals as goal
 
 -- what was made, where the state is new
@@ -22,7 +22,7 @@ made_new c =
     made (new_leader c) c.args.self.now c.in_ok-value.value _ _ _ _
     (rw c.deref-state.ensures at c.in_ok-value.ensures) c.in_ok-waiting.ensures.value c.in_ok-waiting.ensures.waiting c.in_ok-waiting.ensures.replies (rw c.deref-state.ensures at c.in_ok-config.ensures)
 
-is_new : (c : goal.Else-is_nothing_new) → false ≡ (not (sends_anew c.args.policy c.args.self.now) && is_accepted c.args.term c.args.accepted.now c.in_ok-config.config c.process.new.value)
+is_new : (c : goal.Else-is_nothing_new) → false ≡ is_old (new_leader c) c.args.self.now c.in_ok-waiting.field-0.waiting.items c.in_ok-config.config c.process.new.value
 is_new c = rw c.deref-state.ensures at (sym c.if-is_nothing_new.false ∙ c.is_nothing_new.ensures)
 
 pub returns-clause-waiting : goal.returns-clause-waiting
@@ -54,7 +54,7 @@ made_same c =
     made (same_leader c) c.args.self.now c.in_ok-value.value _ _ _ _
     (rw c.deref-state.ensures at c.in_ok-value.ensures) c.in_ok-waiting.ensures.value c.in_ok-waiting.ensures.waiting c.in_ok-waiting.ensures.replies (rw c.deref-state.ensures at c.in_ok-config.ensures)
 
-is_same : (c : goal.After-drop-value-then-is_nothing_new-3) → true ≡ (not (sends_anew c.args.policy c.args.self.now) && is_accepted c.args.term c.args.accepted.now c.in_ok-config.config c.process.new.value)
+is_same : (c : goal.After-drop-value-then-is_nothing_new-3) → true ≡ is_old (same_leader c) c.args.self.now c.in_ok-waiting.field-0.waiting.items c.in_ok-config.config c.process.new.value
 is_same c = rw c.deref-state.ensures at (sym c.if-is_nothing_new.true ∙ c.is_nothing_new.ensures)
 
 pub returns-then-is_nothing_new-clause-waiting : goal.returns-then-is_nothing_new-clause-waiting
