@@ -1,5 +1,5 @@
 -- Each act of a rule is answered as the node's acts so far say.
-use Rattle.std.proofs.Common.{ℕ, Bool, true, false, not, ◌&&◌, Option, None, Some, Result, Ok, Err, List, [], ◌∷◌, ◌++◌, refl}
+use Rattle.std.proofs.Common.{ℕ, ◌+◌, Bool, true, false, not, ◌&&◌, Option, None, Some, Result, Ok, Err, List, [], ◌∷◌, ◌++◌, refl}
 use Rattle.std.specs.Prelude.{if◌then◌else◌, is_some, nat_lt}
 use Rattle.voting_config.specs.Ids.{Id, same, has_room}
 use Rattle.bootstrap.specs.Decisions.{decision_of}
@@ -315,12 +315,17 @@ module _ (s : Settings) where
   answered-frame v f = answered-if v (same f.to s.me) _ _ (answered-message v f.from f.message) (Ended v)
 
   -- a connection that has ended
+  answered-leads_anew : (v : View) → IsAnswered s v (disconnects.leads_anew s v)
+  answered-leads_anew v =
+      answered-then v _ (λ u. elections.stands_for_election s u (u.node.term + 1)) (answered-quiet v _ (quiet-becomes_candidate v))
+      (λ u. answered-quiet u _ (quiet-stands_for_election u (u.node.term + 1)))
+
   answered-loses : (v : View) (p : Id) (m : Mode) → IsAnswered s v (disconnects.loses s v p m)
   answered-loses v p Candidate = answered-quiet v _ (quiet-if _ _ _ (Also _ _ refl Silent) Silent)
   answered-loses v p Leader =
       answered-if v _ _ _
       (answered-then v _ (disconnects.goes_on_with_rest s) (answered-quiet v _ (Also _ _ refl (Also _ _ refl Silent)))
-      (λ u. answered-if u (disconnects.keeps_quorum s u) _ _ (answered-goes_on u) (answered-quiet u _ (quiet-becomes_candidate u))))
+      (λ u. answered-if u (disconnects.keeps_quorum s u) _ _ (answered-goes_on u) (answered-leads_anew u)))
       (Ended v)
   answered-loses v p (Follower leader) = answered-if v (same leader p) _ _ (answered-quiet v _ (quiet-append _ _ (quiet-becomes_candidate v) (Also _ _ refl Silent))) (Ended v)
 

@@ -9,18 +9,20 @@ use Rattle.cluster_state.specs.declared.request.Ask.TheVariants as ask
 use Rattle.cluster_state.specs.declared.reply.Answer.TheVariants as answer
 use Rattle.cluster_state.specs.declared.reply.Reply.TheVariants as reply
 use Rattle.fault_checks.specs.Checks.{unchecked}
+use Rattle.peer_finder.specs.declared.Peer.{Peer}
 use Rattle.fault_checks.specs.Followers.{no_state}
 use Rattle.fault_checks.specs.declared.followers.Follower.{Follower as Watched}
 use Rattle.master_tasks.specs.declared.waiting.Waiting.{Waiting}
 use Rattle.master_tasks.specs.Queue.{no_tasks}
 use Rattle.pre_vote.specs.Rounds.{started}
 use Rattle.policy_model.specs.declared.settings.Settings.{Settings}
-use Rattle.policy_model.specs.Events.{Candidate, Leader, Follower, Checks, Lag, Item, ChangesMode, Drops, Sends, Replies, Notes, Met, Heard, RoundAnswered, RoundEnded, Joined, FollowersChecked, LeaderChecked, ExclusionsTimedOut, CommitAcked, ExclusionsAcked, HandedOver}
+use Rattle.policy_model.specs.Events.{Candidate, Leader, Follower, Checks, Lag, Disconnect, Item, ChangesMode, Drops, Sends, Replies, Notes, Met, Heard, RoundAnswered, RoundEnded, Joined, FollowersChecked, LeaderChecked, ExclusionsTimedOut, CommitAcked, ExclusionsAcked, HandedOver, PeerLost}
 use Rattle.policy_model.specs.Parts.{no_peers, no_followers, published_at}
 use Rattle.policy_model.specs.Views.{View}
 use Rattle.policy_model.specs.Moves.{moved}
 use Rattle.policy_model.specs.NextState.{hands_over}
-use Rattle.policy_model.specs.Elections.{on_pre_vote_ask, on_pre_vote_answer}
+use Rattle.policy_model.specs.Disconnects.{loses_follower}
+use Rattle.policy_model.specs.Elections.{election_rank, begins_round, waits_until, on_pre_vote_ask, on_pre_vote_answer}
 use Rattle.policy_model.specs.Discovery.{on_peers_answer}
 use Rattle.policy_model.specs.Joins.{on_join_ask}
 use Rattle.policy_model.specs.Publications.{sends_first_commit, acks_exclusions}
@@ -41,6 +43,20 @@ state_id term version = record { term = term; version = version }
 
 abbrev three : Settings
 three = record { me = a; peers = []; initial = a ∷ b ∷ c ∷ []; voting_only = []; policy = record { shrink = true; second = false } }
+
+-- the same in the second profile, and the last of the three
+abbrev second : Settings
+second = record three { policy = record { shrink = true; second = true } }
+
+abbrev last_of_three : Settings
+last_of_three = record three { me = c }
+
+-- a peer that has not answered, and one that knows no master
+abbrev unanswered : Id → Peer
+unanswered id = record { id = id; answer = None }
+
+abbrev free : Id → Peer
+free id = record { id = id; answer = Some (record { master = None }) }
 
 abbrev to : Id → WireMessage → Item
 to id m = Sends (record { from = a; to = id; message = m })
@@ -77,6 +93,70 @@ module _ (v : View) where
 
   leader_counts_none : on_pre_vote_answer three (record in_round { mode = Leader }) in_round.round b 6 (state_id 1 3) ≡ []
   leader_counts_none = refl
+
+  -- The last of three voters, a candidate that has lost its leader: it leaves 500 ms to each voter that comes first and has answered as free.
+  abbrev leaderless : List Peer → ℕ → View
+  leaderless peers now = record v {
+    moment = now;
+    lost_leader = true;
+    node = record v.node { accepted = record v.node.accepted { config = a ∷ b ∷ c ∷ [] } };
+    finder = record (no_peers c) { peers = peers };
+  }
+
+  two_come_first : election_rank last_of_three (leaderless (free a ∷ free b ∷ []) 5000) ≡ 2
+  two_come_first = refl
+
+  dead_are_not_counted : election_rank last_of_three (leaderless (unanswered a ∷ free b ∷ []) 5000) ≡ 1
+  dead_are_not_counted = refl
+
+  voting_only_is_not_counted : election_rank (record last_of_three { voting_only = b ∷ [] }) (leaderless (unanswered a ∷ free b ∷ []) 5000) ≡ 0
+  voting_only_is_not_counted = refl
+
+  nobody_comes_first : election_rank last_of_three (record (leaderless (free a ∷ free b ∷ []) 5000) { lost_leader = false }) ≡ 0
+  nobody_comes_first = refl
+
+  waits_its_turn : (word : ℕ) → waits_until last_of_three (leaderless (unanswered a ∷ free b ∷ []) 5499) word (Some 5000) ≡ []
+  waits_its_turn word = refl
+
+  its_turn : (word : ℕ)
+      → waits_until last_of_three (leaderless (unanswered a ∷ free b ∷ []) 5500) word (Some 5000)
+      ≡ begins_round last_of_three (leaderless (unanswered a ∷ free b ∷ []) 5500) word
+  its_turn word = refl
+
+  -- a leader of term 4 that watches b alone; of its last state, with the members a, b and c, these have responded
+  abbrev watching_b : List Id → View
+  watching_b responders = record v {
+    mode = Leader;
+    node = record v.node {
+      term = 4;
+      committed = a ∷ b ∷ c ∷ [];
+      published_config = a ∷ b ∷ c ∷ [];
+      accepted = record v.node.accepted { config = a ∷ b ∷ c ∷ [] };
+    };
+    finder = record (no_peers a) { peers = free b ∷ unanswered c ∷ [] };
+    publication = Some (record (published_at (state_id 4 1) (a ∷ b ∷ c ∷ []) 0) { responders = responders });
+    followers = record no_followers { watched = record { id = b; check = unchecked 0; applied = no_state; behind = None } ∷ [] };
+    tasks = no_tasks;
+  }
+
+  -- it loses b, so its quorum, and asks all for their votes at once
+  asks_anew : loses_follower three (watching_b (a ∷ b ∷ [])) b
+      ≡ Drops b Disconnect
+      ∷ Notes (PeerLost b)
+      ∷ ChangesMode Candidate 4
+      ∷ Notes RoundEnded
+      ∷ to a (message.StartJoin a 5)
+      ∷ to b (message.StartJoin a 5)
+      ∷ to c (message.StartJoin a 5)
+      ∷ []
+  asks_anew = refl
+
+  -- in the second profile not where b's response may still commit the state
+  response_counts : loses_follower second (watching_b (a ∷ b ∷ [])) b ≡ Drops b Disconnect ∷ Notes (PeerLost b) ∷ []
+  response_counts = refl
+
+  asks_anew_too : loses_follower second (record (watching_b (a ∷ [])) { tasks = record no_tasks { removals = c ∷ [] } }) b ≡ loses_follower three (watching_b (a ∷ [])) b
+  asks_anew_too = refl
 
   -- a leader takes who asks for a join as a member; in a later term it raises its own; another node does nothing
   abbrev leading : View

@@ -19,14 +19,15 @@ use Rattle.world_model.specs.declared.acts.Act.TheVariants.{Bootstrap}
 use Rattle.world_model.specs.declared.acts.ActReply.TheVariants.{Taken}
 use Rattle.world_model.specs.declared.acts.Outcome.TheVariants.{Answered}
 use Rattle.policy_model.specs.declared.settings.Settings.{Settings}
-use Rattle.policy_model.specs.Events.{Candidate, Leader, Follower, Event, Start, Tick, FrameCame, Item, Acts, ChangesMode, Sends, Replies, Notes, Met, PeersAsked, ElectionSet, RoundBegun, RoundEnded, CommitAcked, HandedOver, Begins, Log, NoItems, And, added}
+use Rattle.policy_model.specs.Events.{Candidate, Leader, Follower, Event, Start, Tick, FrameCame, Item, Acts, ChangesMode, Sends, Replies, Notes, Met, PeersAsked, ElectionSet, RoundBegun, RoundEnded, CommitAcked, StateMade, HandedOver, Begins, Log, NoItems, And, added}
 use Rattle.policy_model.specs.Entries.{frames_of}
 use Rattle.policy_model.specs.LookBacks.{mode_of, applied_of}
 use Rattle.policy_model.specs.Parts.{published_at}
 use Rattle.policy_model.specs.Doing.{becomes_candidate, becomes_follower}
-use Rattle.policy_model.specs.NextState.{goes_on, hands_over, makes_state}
+use Rattle.policy_model.specs.NextState.{goes_on, hands_over, publishes, makes_state}
 use Rattle.policy_model.specs.Publications.{sends_first_commit}
-use Rattle.policy_model.specs.Views.{View}
+use Rattle.policy_model.specs.Views.{View, view_of}
+use Rattle.policy_model.specs.Moves.{moved}
 use Rattle.policy_model.specs.Follows.{items_of}
 use Rattle.policy_model.specs.Checks.{on_follower_check}
 use Rattle.policy_model.specs.Requests.{takes_line, queues}
@@ -117,6 +118,24 @@ record PublishesFirst : Type 0 where
 publishes_first : PublishesFirst
 unfolding join_checked processed_by next_value config_for next_config is_accepted is_nothing_new next_answers tasks_after
 publishes_first = record { publishes = refl; leads = refl; responds = refl; commits = refl; rests = refl; applies = refl }
+
+-- a leader with a write that waits, of a setting that nobody has put
+abbrev removing : View → View
+removing v = record v {
+  tasks = record no_tasks { waiting = record { conn = 5; arrived = 0; request = record { id = 9; ask = ask.Remove (120 ∷ []) }; processed = false } ∷ [] };
+}
+
+abbrev applied : View
+applied = view_of alone (after committed (from_itself (message.Commit (state_id 1 1))))
+
+record WritesNothing : Type 0 where
+  -- it is acknowledged with the accepted state, and in the second profile published
+  acked : makes_state alone (removing applied) ≡ Replies (record { conn = 5; reply = reply.To 9 (answer.Acked (state_id 1 1)) }) ∷ Notes StateMade ∷ []
+  published : (v : View) → makes_state second (removing v) ≡ Notes StateMade ∷ publishes second (removing v) (moved second (removing v) (Notes StateMade))
+
+writes_nothing : WritesNothing
+unfolding join_checked processed_by next_value config_for next_config is_accepted is_nothing_new next_answers tasks_after
+writes_nothing = record { acked = refl; published = λ v. refl }
 
 module _ (s : Settings) (v : View) where
   -- a follower answers its leader's check

@@ -1,11 +1,9 @@
 -- In the first profile the rules are those of a policy that knows no second one.
-use Rattle.std.proofs.Common.{◌≡◌, ℕ, Bool, true, false, ◌&&◌, ◌||◌, List, refl}
+use Rattle.std.proofs.Common.{◌≡◌, Bool, true, false, ◌&&◌, ◌||◌, refl}
 use Rattle.std.specs.Prelude.{nat_lt, length}
-use Rattle.voting_config.specs.Ids.{Id, same_config}
-use Rattle.cluster_state.specs.declared.state.ClusterState.{ClusterState}
-use Rattle.master_tasks.specs.Queue.{Tasks}
+use Rattle.voting_config.specs.Ids.{same_config}
+use Rattle.master_tasks.specs.NextState.{has_writes}
 use Rattle.policy_model.specs.declared.settings.Settings.{Settings}
-use Rattle.policy_model.specs.Views.{View}
 use Rattle.policy_model.specs.Rules.{has_timed_out}
 use Rattle.policy_model.specs.Laws.{IsFirstProfile}
 
@@ -27,5 +25,6 @@ first_profile s h = record {
   given_up = λ v. rw h (or_no (has_timed_out v.publication v.moment));
   led = λ v. rw h refl;
   wanted = λ term accepted committed. rw h (and_yes (same_config committed accepted.config));
-  not_anew = λ t. rw h (and_no (nat_lt 0 (length t.additions)));
+  not_anew = λ additions waiting. rw h (and_no (nat_lt 0 (length additions) || has_writes waiting));
+  kept = λ v. rw h refl;
 }

@@ -456,7 +456,7 @@ module _ (s : Settings) where
 
   sound-waits_until : (v : View) (word : ℕ) (o : Option ℕ) → AreSound (elections.waits_until s v word o)
   sound-waits_until v word None = Also _ _ tt Silent
-  sound-waits_until v word (Some deadline) = sound-if (is_due deadline v.moment) _ _ (sound-begins_round v word) Silent
+  sound-waits_until v word (Some deadline) = sound-if _ _ _ (sound-begins_round v word) Silent
 
   sound-waits : (v : View) (word : ℕ) → AreSound (elections.waits_for_election s v word)
   sound-waits v word = sound-if _ _ _ (sound-waits_until v word v.deadline) (Also _ _ tt Silent)
@@ -643,12 +643,17 @@ module _ (s : Settings) where
   fit-message v p (message.LeaderCheck term) f e h = fit-sound v _ f (Also _ _ tt Silent)
   fit-message v p (message.LeaderAnswer good) f e h = fit-sound v _ f (sound-answered_by_leader v p good)
 
+  fit-leads_anew : (v : View) → IsFitView v → Fit v (disconnects.leads_anew s v)
+  fit-leads_anew v f =
+      fit-then v _ (λ u. elections.stands_for_election s u (u.node.term + 1)) (fit-sound v _ f (sound-becomes_candidate v))
+      (λ u g. fit-sound u _ g (sound-stands u (u.node.term + 1)))
+
   fit-loses : (v : View) (p : Id) (m : Mode) → IsFitView v → Fit v (disconnects.loses s v p m)
   fit-loses v p Candidate f = fit-sound v _ f (sound-if _ _ _ (Also _ _ tt Silent) Silent)
   fit-loses v p Leader f =
       fit-if v (has p (ids_of v.followers.watched)) _ _
       (λ e. fit-then v (disconnects.drops_follower s p) (disconnects.goes_on_with_rest s) (fit-sound v _ f (Also _ _ tt (Also _ _ tt Silent)))
-      (λ u g. fit-if u (disconnects.keeps_quorum s u) _ _ (λ k. fit-goes_on u g) (fit-sound u _ g (sound-becomes_candidate u))))
+      (λ u g. fit-if u (disconnects.keeps_quorum s u) _ _ (λ k. fit-goes_on u g) (fit-leads_anew u g)))
       (fit-none v f)
   fit-loses v p (Follower leader) f = fit-if v (same leader p) _ _ (λ e. fit-sound v _ f (sound-append _ _ (sound-becomes_candidate v) (Also _ _ tt Silent))) (fit-none v f)
 

@@ -491,7 +491,7 @@ module _ (s : Settings) where
 
   few-waits_until : (v : View) (word : ℕ) (o : Option ℕ) → IsSmallView v → Few 127 v (elections.waits_until s v word o)
   few-waits_until v word None f = few-item 127 v _ _ refl f (λ g. none-within 127 _ g)
-  few-waits_until v word (Some deadline) f = few-if 127 v (is_due deadline v.moment) _ _ (few-begins_round v word f) (none-within 127 v f)
+  few-waits_until v word (Some deadline) f = few-if 127 v _ _ _ (few-begins_round v word f) (none-within 127 v f)
 
   few-waits : (v : View) (word : ℕ) → IsSmallView v → Few 127 v (elections.waits_for_election s v word)
   few-waits v word f = few-if 127 v _ _ _ (few-waits_until v word v.deadline f) (few-item 127 v _ _ refl f (λ g. none-within 127 _ g))
@@ -689,13 +689,18 @@ module _ (s : Settings) where
   few-message v p (message.LeaderCheck term) f h = few-more 1 65 v _ (omega arith) (few-send 0 v _ _ f (λ g. few-none v g))
   few-message v p (message.LeaderAnswer good) f h = few-more 0 65 v _ (omega arith) (few-note v (doing.follows_node v.mode p) (LeaderAnswered good) f)
 
+  few-leads_anew : (v : View) → IsSmallView v → Few 64 v (disconnects.leads_anew s v)
+  few-leads_anew v f =
+      few-then 0 64 v _ (λ u. elections.stands_for_election s u (u.node.term + 1)) (few-becomes_candidate v f)
+      (λ u g. few-stands u u (u.node.term + 1) g g)
+
   few-loses : (v : View) (p : Id) (m : Mode) → IsSmallView v → Few 64 v (disconnects.loses s v p m)
   few-loses v p Candidate f = few-more 0 64 v _ (omega arith) (few-note v _ (PeerLost p) f)
   few-loses v p Leader f =
       let after : View = moved_all s v (disconnects.drops_follower s p) in
       few-if 64 v _ _ _
       (few-item 64 v _ _ refl f (λ g. few-item 64 _ _ _ refl g
-      (λ h. few-if 64 after (disconnects.keeps_quorum s after) _ _ (few-goes_on after h) (few-more 0 64 _ _ (omega arith) (few-becomes_candidate after h)))))
+      (λ h. few-if 64 after (disconnects.keeps_quorum s after) _ _ (few-goes_on after h) (few-leads_anew after h))))
       (none-within 64 v f)
   few-loses v p (Follower leader) f = few-if 64 v (same leader p) _ _ (few-more 0 64 v _ (omega arith) (few-append 0 0 v _ _ (few-becomes_candidate v f) (λ g. few-item 0 _ _ _ refl g (λ h. few-none _ h)))) (none-within 64 v f)
 

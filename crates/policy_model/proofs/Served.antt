@@ -1,5 +1,5 @@
 -- Each rule queues requests and answers those that wait, and those only.
-use Rattle.std.proofs.Common.{◌≡◌, ◌∙◌, ap, sym, subst, append_assoc, ℕ, Bool, true, false, not, ◌&&◌, Option, None, Some, Result, Ok, Err, List, [], ◌∷◌, ◌++◌, refl}
+use Rattle.std.proofs.Common.{◌≡◌, ◌∙◌, ap, sym, subst, append_assoc, ℕ, ◌+◌, Bool, true, false, not, ◌&&◌, Option, None, Some, Result, Ok, Err, List, [], ◌∷◌, ◌++◌, refl}
 use Rattle.std.specs.Prelude.{if◌then◌else◌, is_some, nat_lt}
 use Rattle.voting_config.specs.Ids.{Id, same, among, has_room}
 use Rattle.bootstrap.specs.Decisions.{decision_of}
@@ -390,12 +390,17 @@ module _ (s : Settings) where
   served-message v p (message.LeaderAnswer good) = served-if v (doing.follows_node v.mode p) _ _ (Aside _ _ _ refl (Ended _)) (Ended v)
 
   -- a connection that has ended
+  served-leads_anew : (v : View) → IsServed s v (disconnects.leads_anew s v)
+  served-leads_anew v =
+      served-then v _ (λ u. elections.stands_for_election s u (u.node.term + 1)) (served-becomes_candidate v)
+      (λ u. served-aside u _ (aside-stands_for_election u (u.node.term + 1)))
+
   served-loses : (v : View) (p : Id) (m : Mode) → IsServed s v (disconnects.loses s v p m)
   served-loses v p Candidate = served-if v _ _ _ (Aside _ _ _ refl (Ended _)) (Ended v)
   served-loses v p Leader =
       let after : View = moved_all s v (disconnects.drops_follower s p) in
       served-if v _ _ _
-      (Aside _ _ _ refl (Aside _ _ _ refl (served-if after (disconnects.keeps_quorum s after) _ _ (served-goes_on after) (served-becomes_candidate after))))
+      (Aside _ _ _ refl (Aside _ _ _ refl (served-if after (disconnects.keeps_quorum s after) _ _ (served-goes_on after) (served-leads_anew after))))
       (Ended v)
   served-loses v p (Follower leader) = served-if v (same leader p) _ _ (served-append v _ _ (served-becomes_candidate v) (Aside _ _ _ refl (Ended _))) (Ended v)
 

@@ -205,7 +205,7 @@ module _ (s : Settings) where
 
   silent-waits_until : (v : View) (word : ℕ) (o : Option ℕ) → AreSilent (elections.waits_until s v word o)
   silent-waits_until v word None = Also _ _ refl Silent
-  silent-waits_until v word (Some deadline) = silent-if (is_due deadline v.moment) _ _ (silent-begins_round v word) Silent
+  silent-waits_until v word (Some deadline) = silent-if _ _ _ (silent-begins_round v word) Silent
 
   silent-waits : (v : View) (word : ℕ) → AreSilent (elections.waits_for_election s v word)
   silent-waits v word = silent-if _ _ _ (silent-waits_until v word v.deadline) (Also _ _ refl Silent)
@@ -383,12 +383,17 @@ module _ (s : Settings) where
   most-message v p (message.LeaderCheck term) = most-quiet 3 6 _ (Also _ _ refl Silent)
   most-message v p (message.LeaderAnswer good) = most-quiet 3 6 _ (silent-if (doing.follows_node v.mode p) _ _ (Also _ _ refl Silent) Silent)
 
+  most-leads_anew : (v : View) → AtMost 0 1 (disconnects.leads_anew s v)
+  most-leads_anew v =
+      most-then 0 1 0 0 v _ (λ u. elections.stands_for_election s u (u.node.term + 1)) (most-becomes_candidate v)
+      (λ u. most-quiet 0 0 _ (silent-stands u (u.node.term + 1)))
+
   most-loses : (v : View) (p : Id) (m : Mode) → AtMost 1 2 (disconnects.loses s v p m)
   most-loses v p Candidate = most-quiet 1 2 _ (silent-if _ _ _ (Also _ _ refl Silent) Silent)
   most-loses v p Leader =
       most-if 1 2 _ _ _
       (most-then 0 0 1 2 v _ (disconnects.goes_on_with_rest s) (most-quiet 0 0 _ (Also _ _ refl (Also _ _ refl Silent)))
-      (λ u. most-if 1 2 (disconnects.keeps_quorum s u) _ _ (most-goes_on u) (most-more 0 1 1 2 _ (most-becomes_candidate u) (omega arith) (omega arith))))
+      (λ u. most-if 1 2 (disconnects.keeps_quorum s u) _ _ (most-goes_on u) (most-more 0 1 1 2 _ (most-leads_anew u) (omega arith) (omega arith))))
       (most-none 1 2)
   most-loses v p (Follower leader) = most-if 1 2 (same leader p) _ _ (most-more 0 1 1 2 _ (most-append 0 1 0 0 _ _ (most-becomes_candidate v) (most-quiet 0 0 _ (Also _ _ refl Silent))) (omega arith) (omega arith)) (most-none 1 2)
 

@@ -276,7 +276,7 @@ module _ (s : Settings) where
 
   calm-waits_until : (v : View) (word : ℕ) (o : Option ℕ) → AreCalm (elections.waits_until s v word o)
   calm-waits_until v word None = Also _ _ refl Silent
-  calm-waits_until v word (Some deadline) = calm-if (is_due deadline v.moment) _ _ (calm-begins_round v word) Silent
+  calm-waits_until v word (Some deadline) = calm-if _ _ _ (calm-begins_round v word) Silent
 
   calm-waits : (v : View) (word : ℕ) → AreCalm (elections.waits_for_election s v word)
   calm-waits v word = calm-if _ _ _ (calm-waits_until v word v.deadline) (Also _ _ refl Silent)
@@ -455,12 +455,17 @@ module _ (s : Settings) where
   spends-message v p (message.LeaderCheck term) = spends-calm v _ (Also _ _ refl Silent)
   spends-message v p (message.LeaderAnswer good) = spends-calm v _ (calm-if (doing.follows_node v.mode p) _ _ (Also _ _ refl Silent) Silent)
 
+  spends-leads_anew : (v : View) → Spends s v (disconnects.leads_anew s v)
+  spends-leads_anew v =
+      spends-then v _ (λ u. elections.stands_for_election s u (u.node.term + 1)) (spends-becomes_candidate v)
+      (λ u. spends-calm u _ (calm-stands u (u.node.term + 1)))
+
   spends-loses : (v : View) (p : Id) (m : Mode) → Spends s v (disconnects.loses s v p m)
   spends-loses v p Candidate = spends-calm v _ (calm-if _ _ _ (Also _ _ refl Silent) Silent)
   spends-loses v p Leader =
       spends-if v _ _ _
       (spends-then v _ (disconnects.goes_on_with_rest s) (spends-calm v _ (Also _ _ refl (Also _ _ refl Silent)))
-      (λ u. spends-if u (disconnects.keeps_quorum s u) _ _ (spends-goes_on u) (spends-becomes_candidate u)))
+      (λ u. spends-if u (disconnects.keeps_quorum s u) _ _ (spends-goes_on u) (spends-leads_anew u)))
       (spends-none v)
   spends-loses v p (Follower leader) = spends-if v (same leader p) _ _ (spends-append v _ _ (spends-becomes_candidate v) (spends-calm _ _ (Also _ _ refl Silent))) (spends-none v)
 

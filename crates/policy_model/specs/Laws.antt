@@ -1,11 +1,12 @@
 -- For the contracts inside: the laws of lives that follow the policy, as statements.
-use Rattle.std.specs.Prelude.{◌≡◌, ℕ, Bool, true, false, ◌&&◌, List, [], ◌∷◌, find, if◌then◌else◌}
-use Rattle.voting_config.specs.Ids.{Id, has, same_config}
+use Rattle.std.specs.Prelude.{◌≡◌, ℕ, true, false, ◌&&◌, List, [], ◌∷◌, find, if◌then◌else◌}
+use Rattle.voting_config.specs.Ids.{Id, has, same_config, with_room}
 use Rattle.cluster_state.specs.declared.state.StateId.{StateId}
 use Rattle.cluster_state.specs.declared.state.Kept.{Kept}
 use Rattle.cluster_state.specs.declared.state.ClusterState.{ClusterState}
 use Rattle.world_model.specs.declared.acts.Act.TheVariants.{Open}
 use Rattle.world_model.specs.Histories.{IsLocal, ContinuesUnlessFirst}
+use Rattle.fault_checks.specs.Followers.{ids_of}
 use Rattle.world_model.specs.Replies.{elects}
 use Rattle.master_tasks.specs.declared.waiting.Waiting.{Waiting}
 use Rattle.master_tasks.specs.NextState.{may_move, sends_anew}
@@ -16,6 +17,7 @@ use Rattle.policy_model.specs.Views.{View, view_of}
 use Rattle.policy_model.specs.Moves.{opened, moved, moved_all}
 use Rattle.policy_model.specs.Doing.{is_leader, may_win, then_rule, becomes_follower}
 use Rattle.policy_model.specs.Checks.{answers_leader, follows_checker}
+use Rattle.policy_model.specs.Disconnects.{keeps_quorum}
 use Rattle.policy_model.specs.Rules.{gives_up, has_timed_out}
 use Rattle.policy_model.specs.Elections.{free_nodes, waits_until, waits_for_election}
 use Rattle.policy_model.specs.Joins.{counts_join, on_join}
@@ -51,7 +53,7 @@ pub record IsWithoutVotingOnly (s : Settings) : Type 0 where
 abbrev pub LawNoVotingOnly : Type 0
 LawNoVotingOnly = (s : Settings) → s.voting_only ≡ [] → IsWithoutVotingOnly s
 
--- the five rules that look at the profile are those of a policy that knows no second one
+-- the six rules that look at the profile are those of a policy that knows no second one
 pub record IsFirstProfile (s : Settings) : Type 0 where
   pub checked : (v : View) (p : Id)
       → follows_checker s v p
@@ -62,6 +64,7 @@ pub record IsFirstProfile (s : Settings) : Type 0 where
   pub wanted : (term : ℕ) (accepted : ClusterState) (committed : List Id)
       → may_move term accepted committed s.policy ≡ same_config committed accepted.config
   pub not_anew : (additions : List Id) (waiting : List Waiting) → sends_anew s.policy additions waiting ≡ false
+  pub kept : (v : View) → keeps_quorum s v ≡ elects v.node (with_room (ids_of v.followers.watched) s.me)
 
 -- so it is where the settings name the first profile
 abbrev pub LawFirstProfile : Type 0

@@ -1,5 +1,5 @@
 -- Part of the statement: a node after what it saw and did: all that the rules speak of.
-use Rattle.std.specs.Prelude.{ℕ, Option}
+use Rattle.std.specs.Prelude.{ℕ, Bool, Option}
 use Rattle.cluster_state.specs.declared.state.StateId.{StateId}
 use Rattle.world_model.specs.NodeState.{NodeState}
 use Rattle.peer_finder.specs.Peers.{PeerFinder}
