@@ -1,5 +1,5 @@
 -- Part of the statement: what bytes are read as: the schedule, or the first bad line and why it is bad.
-use Rattle.std.specs.Prelude.{ℕ, ◌+◌, Bool, false, Option, None, Some, Result, Ok, Err, List, [], ◌∷◌, ◌++◌, length, codes, nat_lt, if◌then◌else◌}
+use Rattle.std.specs.Prelude.{ℕ, ◌+◌, Bool, true, false, ◌&&◌, Option, None, Some, Result, Ok, Err, List, [], ◌∷◌, ◌++◌, length, codes, nat_lt, if◌then◌else◌}
 use Rattle.std.specs.Str.{bytes_eq}
 use Rattle.voting_config.specs.Ids.{Id, are_among}
 use Rattle.schedule_text.specs.declared.fault.WhyBad.{WhyBad}
@@ -12,7 +12,7 @@ use Rattle.schedule_text.specs.declared.schedule.Line.{Line}
 use Rattle.schedule_text.specs.declared.schedule.Schedule.{Schedule}
 use Rattle.schedule_text.specs.Limits.{most_bytes, most_lines, most_line_bytes}
 use Rattle.voting_config.specs.Lists.{parts_of, line_feed}
-use Rattle.schedule_text.specs.Words.{◌>>=◌, list, is_some_list}
+use Rattle.schedule_text.specs.Words.{◌>>=◌, Word, list, is_some_list}
 use Rattle.schedule_text.specs.Lines.{one_word, words_of, line_at}
 
 abbrev pub first_place : Place
@@ -55,41 +55,48 @@ abbrev pub as_header : Result (List Id) WhyBad → Result (List Id) WhyBad
 as_header (Ok ids) = Ok ids
 as_header (Err e) = Err why.Header
 
+abbrev pub any_list : Word (List Id)
+any_list = list (λ ids. true)
+
 abbrev pub header_words : List ℕ → List (List ℕ) → Result (List Id) WhyBad
 header_words name [] = Err why.Header
-header_words name (v ∷ ws) = if bytes_eq v name then as_header (one_word ws >>= (list is_some_list).at) else Err why.Header
+header_words name (v ∷ ws) = if bytes_eq v name then as_header (one_word ws >>= any_list.at) else Err why.Header
 
--- a header line: its name, and a list that isn't empty
-abbrev pub header_at : List ℕ → List ℕ → Result (List Id) WhyBad
-header_at name line = header_words name (words_of line)
+-- the list of a header line, after its name
+abbrev pub header_at : List ℕ → Place → List ℕ → Result (List Id) BadSchedule
+header_at name p line = in_line p (sized_at p line >>= λ l. header_words name (words_of l))
 
--- one of some of these ids
-abbrev pub header_of_some_at : List ℕ → List Id → List ℕ → Result (List Id) WhyBad
-header_of_some_at name ids line = header_at name line >>= λ xs. if are_among ids xs then Ok xs else Err why.Header
+-- it passes the test, or its line is no header line
+abbrev pub passing : (List Id → Bool) → Place → List Id → Result (List Id) BadSchedule
+passing good p ids = if good ids then Ok ids else Err (record { line = p.number; why = why.Header })
 
--- the line is to be the third of the header, at level node alone: it begins with the name of that one
-abbrev pub names_third : List (List ℕ) → Bool
-names_third [] = false
-names_third (v ∷ ws) = bytes_eq v (codes "voting-only")
-
-abbrev pub is_third : Level → List ℕ → Bool
-is_third Core line = false
-is_third Node line = names_third (words_of line)
-
--- ---- the lines
-
--- the first header line, and the second and third, whose ids are among those of the first
+-- the nodes, one or more; the initial ones, one or more of them; and the voting-only ones, any of them
 abbrev pub first_line_at : Place → List ℕ → Result (List Id) BadSchedule
-first_line_at p line = in_line p (sized_at p line >>= header_at (codes "nodes"))
-
-abbrev pub later_header_at : List ℕ → List Id → Place → List ℕ → Result (List Id) BadSchedule
-later_header_at name ids p line = in_line p (sized_at p line >>= header_of_some_at name ids)
+first_line_at p line = header_at (codes "nodes") p line >>> passing is_some_list p
 
 abbrev pub second_line_at : List Id → Place → List ℕ → Result (List Id) BadSchedule
-second_line_at ids p line = later_header_at (codes "initial") ids p line
+second_line_at nodes p line = header_at (codes "initial") p line >>> passing (λ ids. is_some_list ids && are_among nodes ids) p
 
-abbrev pub third_line_at : List Id → Place → List ℕ → Result (List Id) BadSchedule
-third_line_at ids p line = later_header_at (codes "voting-only") ids p line
+abbrev pub voting_only_line_at : List Id → Place → List ℕ → Result (List Id) BadSchedule
+voting_only_line_at nodes p line = header_at (codes "voting-only") p line >>> passing (are_among nodes) p
+
+-- the profile, which is named where it is the second
+abbrev pub second_profile : List ℕ → Result Bool WhyBad
+second_profile line = if bytes_eq line (codes "profile 2") then Ok true else Err why.Header
+
+abbrev pub profile_line_at : Place → List ℕ → Result Bool BadSchedule
+profile_line_at p line = in_line p (sized_at p line >>= second_profile)
+
+-- the line is to be a further one of the header, at level node alone: it begins with the name of that one
+abbrev pub begins : List ℕ → List (List ℕ) → Bool
+begins name [] = false
+begins name (v ∷ ws) = bytes_eq v name
+
+abbrev pub is_named : Level → List ℕ → List ℕ → Bool
+is_named Core name line = false
+is_named Node name line = begins name (words_of line)
+
+-- ---- the lines
 
 -- one line that has its line feed
 abbrev pub one_line_at : Level → List Id → Place → List ℕ → Result Line BadSchedule
@@ -116,19 +123,29 @@ no_initial p [] = Err (record { line = p.number; why = why.Header })
 no_initial p (b ∷ bs) = Err (record { line = p.number; why = why_cut p (b ∷ bs) })
 
 -- the lines after a header
-abbrev pub with_lines_at : Level → (nodes initial voting_only : List Id) → Place → List (List ℕ) → Result Schedule BadSchedule
-with_lines_at level nodes initial voting_only p parts =
+abbrev pub with_lines_at : Level → (nodes initial voting_only : List Id) → (second : Bool) → Place → List (List ℕ) → Result Schedule BadSchedule
+with_lines_at level nodes initial voting_only second p parts =
     lines_at level nodes p [] parts >>> λ lines.
-    Ok (record { nodes = nodes; initial = initial; voting_only = voting_only; lines = lines })
+    Ok (record { nodes = nodes; initial = initial; voting_only = voting_only; second = second; lines = lines })
 
--- the third header line, where it is there, and the lines
+-- what a line says that may stand here, and what it is where there is none; and what follows it
+abbrev pub optional_at : {X : Type 0} → (List ℕ → Bool) → (Place → List ℕ → Result X BadSchedule) → X → (X → Place → List (List ℕ) → Result Schedule BadSchedule) → Place → List (List ℕ) → Result Schedule BadSchedule
+optional_at is_there read none next p [] = next none p []
+optional_at is_there read none next p (line ∷ []) = next none p (line ∷ [])
+optional_at is_there read none next p (line ∷ more ∷ others) =
+    if is_there line
+    then (read p line >>> λ x. next x (after_line p line) (more ∷ others))
+    else next none p (line ∷ more ∷ others)
+
+-- the header line of the profile, where it is there, and the lines
+abbrev pub profile_at : Level → (nodes initial voting_only : List Id) → Place → List (List ℕ) → Result Schedule BadSchedule
+profile_at level nodes initial voting_only =
+    optional_at (is_named level (codes "profile")) profile_line_at false (with_lines_at level nodes initial voting_only)
+
+-- the header line of the voting-only nodes, where it is there, and what follows it
 abbrev pub voting_only_at : Level → (nodes initial : List Id) → Place → List (List ℕ) → Result Schedule BadSchedule
-voting_only_at level nodes initial p [] = with_lines_at level nodes initial [] p []
-voting_only_at level nodes initial p (line ∷ []) = with_lines_at level nodes initial [] p (line ∷ [])
-voting_only_at level nodes initial p (line ∷ next ∷ more) =
-    if is_third level line
-    then (third_line_at nodes p line >>> λ voting_only. with_lines_at level nodes initial voting_only (after_line p line) (next ∷ more))
-    else with_lines_at level nodes initial [] p (line ∷ next ∷ more)
+voting_only_at level nodes initial =
+    optional_at (is_named level (codes "voting-only")) (voting_only_line_at nodes) [] (profile_at level nodes initial)
 
 -- the second header line, which must be there, and what follows it
 abbrev pub initial_at : Level → List Id → Place → List (List ℕ) → Result Schedule BadSchedule
@@ -140,7 +157,7 @@ initial_at level ids p (line ∷ next ∷ more) =
 
 -- the schedule of no bytes
 abbrev pub no_schedule : Schedule
-no_schedule = record { nodes = []; initial = []; voting_only = []; lines = [] }
+no_schedule = record { nodes = []; initial = []; voting_only = []; second = false; lines = [] }
 
 abbrev pub nodes_at : Level → Place → List (List ℕ) → Result Schedule BadSchedule
 nodes_at level p [] = Ok no_schedule

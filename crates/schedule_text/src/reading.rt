@@ -2,7 +2,7 @@
 ghost use Rattle.std.specs.Prelude.{◌≡◌, ◌+◌, ◌<◌, ◌≤◌, ◌^◌, length, codes, OnOk, IfOk, Result, []};
 ghost use Rattle.schedule_text.specs.Limits.{most_lines};
 ghost use Rattle.voting_config.specs.Lists.{parts_of, line_feed};
-ghost use Rattle.schedule_text.specs.Reading.{header_at, header_of_some_at, is_third as is_third_of, one_line_at, first_line_at, later_header_at, lines_at, with_lines_at, voting_only_at, initial_at, schedule_at, fault_of, end_at, no_initial};
+ghost use Rattle.schedule_text.specs.Reading.{header_at, is_named as is_named_of, one_line_at, first_line_at, second_line_at, voting_only_line_at, profile_line_at, lines_at, with_lines_at, profile_at, voting_only_at, initial_at, schedule_at, fault_of, end_at, no_initial};
 ghost use Rattle.schedule_text.specs.Answers.{Adds, Answers, Faulted};
 ghost use Rattle.schedule_text.specs.Spelled.{Spells};
 ghost use Rattle.schedule_text.specs.declared.schedule.Schedule.{Schedule};
@@ -16,75 +16,81 @@ use crate::schedule::{Line, Lines, Schedule};
 use std::alloc::Global;
 use voting_config::{NodeSet, cut};
 
-fn header(name: &[u8], line: &[u8]) -> Result<NodeSet, WhyBad>
-    ensures { result ≡ header_at name.now line.now }
+// The list of a header line, after its name.
+fn header(name: &[u8], place: Place, line: &[u8]) -> Result<NodeSet, BadSchedule>
+    requires { place.before + length line.now + 1 < 2 ^ 64 }
+    ensures { result ≡ header_at name.now place line.now }
 {
+    if let Err(why) = place.check_size(line) {
+        return Err(place.bad(why));
+    }
     let (verb, rest) = cut(line, b' ');
     if verb != name {
-        return Err(WhyBad::Header);
+        return Err(place.bad(WhyBad::Header));
     }
     let Ok(word) = one_word(rest) else {
-        return Err(WhyBad::Header);
+        return Err(place.bad(WhyBad::Header));
     };
     let Some(ids) = NodeSet::from_bytes(word) else {
-        return Err(WhyBad::Header);
+        return Err(place.bad(WhyBad::Header));
     };
-    if ids.len() == 0 {
-        return Err(WhyBad::Header);
-    }
     Ok(ids)
-}
-
-// A header line of some of these ids.
-fn header_of_some(name: &[u8], ids: &NodeSet, line: &[u8]) -> Result<NodeSet, WhyBad>
-    ensures { result ≡ header_of_some_at name.now ids.now line.now }
-{
-    let some = header(name, line)?;
-    if !ids.has_all(&some) {
-        return Err(WhyBad::Header);
-    }
-    Ok(some)
-}
-
-// Whether the line is to be the third one of the header.
-fn is_third(level: Level, line: &[u8]) -> bool
-    ensures { result ≡ is_third_of level line.now }
-{
-    match level {
-        Level::Core => false,
-        Level::Node => cut(line, b' ').0 == b"voting-only".as_slice(),
-    }
 }
 
 fn first_line(place: Place, line: &[u8]) -> Result<NodeSet, BadSchedule>
     requires { place.before + length line.now + 1 < 2 ^ 64 }
     ensures { result ≡ first_line_at place line.now }
 {
-    if let Err(why) = place.check_size(line) {
-        return Err(place.bad(why));
+    let nodes = header(b"nodes", place, line)?;
+    if nodes.len() == 0 {
+        return Err(place.bad(WhyBad::Header));
     }
-    match header(b"nodes", line) {
-        Ok(ids) => Ok(ids),
-        Err(why) => Err(place.bad(why)),
-    }
+    Ok(nodes)
 }
 
-// The second header line, or the third.
-fn later_header(
-    name: &[u8],
-    ids: &NodeSet,
-    place: Place,
-    line: &[u8],
-) -> Result<NodeSet, BadSchedule>
+fn second_line(nodes: &NodeSet, place: Place, line: &[u8]) -> Result<NodeSet, BadSchedule>
     requires { place.before + length line.now + 1 < 2 ^ 64 }
-    ensures { result ≡ later_header_at name.now ids.now place line.now }
+    ensures { result ≡ second_line_at nodes.now place line.now }
+{
+    let initial = header(b"initial", place, line)?;
+    if initial.len() == 0 || !nodes.has_all(&initial) {
+        return Err(place.bad(WhyBad::Header));
+    }
+    Ok(initial)
+}
+
+fn voting_only_line(nodes: &NodeSet, place: Place, line: &[u8]) -> Result<NodeSet, BadSchedule>
+    requires { place.before + length line.now + 1 < 2 ^ 64 }
+    ensures { result ≡ voting_only_line_at nodes.now place line.now }
+{
+    let voting_only = header(b"voting-only", place, line)?;
+    if !nodes.has_all(&voting_only) {
+        return Err(place.bad(WhyBad::Header));
+    }
+    Ok(voting_only)
+}
+
+// Whether the line names the second profile, which is all that it may say.
+fn profile_line(place: Place, line: &[u8]) -> Result<bool, BadSchedule>
+    requires { place.before + length line.now + 1 < 2 ^ 64 }
+    ensures { result ≡ profile_line_at place line.now }
 {
     if let Err(why) = place.check_size(line) {
         return Err(place.bad(why));
     }
-    match header_of_some(name, ids, line) {
-        Ok(ids) => Ok(ids),
-        Err(why) => Err(place.bad(why)),
+    if line != b"profile 2".as_slice() {
+        return Err(place.bad(WhyBad::Header));
+    }
+    Ok(true)
+}
+
+// Whether the line is to be a further one of the header, of this name.
+fn is_named(level: Level, name: &[u8], line: &[u8]) -> bool
+    ensures { result ≡ is_named_of level name.now line.now }
+{
+    match level {
+        Level::Core => false,
+        Level::Node => cut(line, b' ').0 == name,
     }
 }
 
@@ -158,11 +164,12 @@ fn read_with(
     nodes: NodeSet,
     initial: NodeSet,
     voting_only: NodeSet,
+    second: bool,
     place: Place,
     bytes: &[u8],
 ) -> Result<Schedule, ReadError<BadSchedule>>
     requires bytes { place.before + length bytes.now < 2 ^ 64 }
-    ensures { Answers result (with_lines_at level nodes initial voting_only place (parts_of line_feed bytes.now)) }
+    ensures { Answers result (with_lines_at level nodes initial voting_only second place (parts_of line_feed bytes.now)) }
 {
     let lines = match read_lines(alloc, level, &nodes, place, bytes) {
         Ok(lines) => lines,
@@ -172,11 +179,68 @@ fn read_with(
         nodes,
         initial,
         voting_only,
+        second,
         lines,
     })
 }
 
-// The third header line, where it is there, and the lines.
+// The header line of the profile, where it is there, and the lines.
+#[tactic(auto, using(crate::proofs::Splitting::lines_are))]
+fn read_profile(
+    alloc: Global,
+    level: Level,
+    nodes: NodeSet,
+    initial: NodeSet,
+    voting_only: NodeSet,
+    place: Place,
+    bytes: &[u8],
+) -> Result<Schedule, ReadError<BadSchedule>>
+    requires bytes { place.before + length bytes.now < 2 ^ 64 }
+    requires number { place.number ≤ most_lines + 1 }
+    ensures { Answers result (profile_at level nodes initial voting_only place (parts_of line_feed bytes.now)) }
+{
+    let (line, rest) = cut_line(bytes);
+    let Some(rest) = rest else {
+        return read_with(
+            alloc,
+            level,
+            nodes,
+            initial,
+            voting_only,
+            false,
+            place,
+            bytes,
+        );
+    };
+    if !is_named(level, b"profile", line) {
+        return read_with(
+            alloc,
+            level,
+            nodes,
+            initial,
+            voting_only,
+            false,
+            place,
+            bytes,
+        );
+    }
+    let second = match profile_line(place, line) {
+        Ok(second) => second,
+        Err(bad) => return Err(ReadError::Bad(bad)),
+    };
+    read_with(
+        alloc,
+        level,
+        nodes,
+        initial,
+        voting_only,
+        second,
+        place.after(line),
+        rest,
+    )
+}
+
+// The header line of the voting-only nodes, where it is there, and what follows it.
 #[tactic(auto, using(crate::proofs::Splitting::lines_are))]
 fn read_voting_only(
     alloc: Global,
@@ -192,16 +256,16 @@ fn read_voting_only(
 {
     let (line, rest) = cut_line(bytes);
     let Some(rest) = rest else {
-        return read_with(alloc, level, nodes, initial, NodeSet::new(), place, bytes);
+        return read_profile(alloc, level, nodes, initial, NodeSet::new(), place, bytes);
     };
-    if !is_third(level, line) {
-        return read_with(alloc, level, nodes, initial, NodeSet::new(), place, bytes);
+    if !is_named(level, b"voting-only", line) {
+        return read_profile(alloc, level, nodes, initial, NodeSet::new(), place, bytes);
     }
-    let voting_only = match later_header(b"voting-only", &nodes, place, line) {
+    let voting_only = match voting_only_line(&nodes, place, line) {
         Ok(voting_only) => voting_only,
         Err(bad) => return Err(ReadError::Bad(bad)),
     };
-    read_with(
+    read_profile(
         alloc,
         level,
         nodes,
@@ -229,7 +293,7 @@ fn read_rest(
     let Some(rest) = rest else {
         return Err(ReadError::Bad(no_second(place, line)));
     };
-    let initial = match later_header(b"initial", &nodes, place, line) {
+    let initial = match second_line(&nodes, place, line) {
         Ok(initial) => initial,
         Err(bad) => return Err(ReadError::Bad(bad)),
     };
@@ -265,6 +329,7 @@ fn read_exact(alloc: Global, level: Level, bytes: &[u8]) -> Result<Schedule, Rea
             nodes: NodeSet::new(),
             initial: NodeSet::new(),
             voting_only: NodeSet::new(),
+            second: false,
             lines: Lines::of(Vec::new(alloc)),
         });
     };

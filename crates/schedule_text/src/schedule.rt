@@ -77,5 +77,7 @@ pub struct Schedule {
     pub initial: NodeSet,
     /// The nodes that vote and never lead, at level node; none at level core.
     pub voting_only: NodeSet,
+    /// Whether the nodes go by the second profile of the policy, at level node; never at level core.
+    pub second: bool,
     pub lines: Lines,
 }

@@ -5,7 +5,7 @@ ghost use Rattle.std.specs.Prelude.{◌≡◌, ◌++◌, IfOk, OnOk, codes, deci
 ghost use Rattle.schedule_text.specs.Words.{byte_text, mode_text};
 ghost use Rattle.schedule_text.specs.Lines.{line_text};
 ghost use Rattle.schedule_text.specs.Printed.{bad_line, reason_text};
-ghost use Rattle.schedule_text.specs.Spelled.{schedule_text, voting_only_lines, with_feeds};
+ghost use Rattle.schedule_text.specs.Spelled.{schedule_text, voting_only_lines, profile_lines, with_feeds};
 
 use crate::fault::{BadSchedule, WhyBad};
 use crate::modes::hex_byte;
@@ -183,7 +183,7 @@ fn write_lines(text: &mut Text, lines: &[Line]) -> Result<(), AllocError>
     Ok(())
 }
 
-// The third header line, where some nodes are voting-only.
+// The header line of the voting-only nodes, where there are some.
 fn write_voting_only(text: &mut Text, ids: &[NodeId]) -> Result<(), AllocError>
     ensures { OnOk result (text.new ≡ text.old ++ with_feeds (voting_only_lines ids.now)) }
 {
@@ -195,8 +195,18 @@ fn write_voting_only(text: &mut Text, ids: &[NodeId]) -> Result<(), AllocError>
     text.word("\n")
 }
 
-/// The text of a schedule: its two header lines, a third where some nodes are voting-only, and its lines, each with its line
-/// feed. For the schedule of no nodes, which is spelled by no bytes, it is two lines that no schedule has.
+// The header line of the profile, where it is the second.
+fn write_profile(text: &mut Text, second: bool) -> Result<(), AllocError>
+    ensures { OnOk result (text.new ≡ text.old ++ with_feeds (profile_lines second)) }
+{
+    if !second {
+        return Ok(());
+    }
+    text.word("profile 2\n")
+}
+
+/// The text of a schedule: its two header lines, one of the voting-only nodes where there are some, one of the profile where
+/// it is the second, and its lines, each with its line feed. For the schedule of no nodes, which is spelled by no bytes, it is two lines that no schedule has.
 pub fn write_schedule(alloc: Global, schedule: &Schedule) -> Result<Text, AllocError>
     ensures { IfOk result (λ t. t ≡ schedule_text schedule.now) }
 {
@@ -207,6 +217,7 @@ pub fn write_schedule(alloc: Global, schedule: &Schedule) -> Result<Text, AllocE
     text.ids(schedule.initial.as_slice())?;
     text.word("\n")?;
     write_voting_only(&mut text, schedule.voting_only.as_slice())?;
+    write_profile(&mut text, schedule.second)?;
     write_lines(&mut text, schedule.lines.as_slice())?;
     Ok(text)
 }
