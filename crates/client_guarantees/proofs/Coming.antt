@@ -1,5 +1,5 @@
 -- Requests are queued only as their lines come.
-use Rattle.std.proofs.Common.{◌≡◌, ℕ, Bool, true, false, true≢false, not, Option, None, Some, Result, Ok, Err, List, [], ◌∷◌, ◌++◌, refl, sym, subst, ◌⊎◌, inl, inr}
+use Rattle.std.proofs.Common.{◌≡◌, ℕ, ◌+◌, Bool, true, false, true≢false, not, Option, None, Some, Result, Ok, Err, List, [], ◌∷◌, ◌++◌, refl, sym, subst, ◌⊎◌, inl, inr}
 use Rattle.std.specs.Prelude.{if◌then◌else◌}
 use Rattle.std.specs.List.{Contains}
 use Rattle.voting_config.specs.Ids.{Id, same}
@@ -238,12 +238,17 @@ module _ (P : ℕ → Request → Type 0) where
     q-ticks v word Leader = q-ticks_leader v
     q-ticks v word (Follower leader) = q-checks_leader v leader v.leader_check
 
+    q-leads_anew : (v : View) → Queues P (disconnects.leads_anew s v)
+    q-leads_anew v =
+        q-then s v _ (λ u. elections.stands_for_election s u (u.node.term + 1)) (q-becomes_candidate v)
+        (λ u. q-stands_for_election u (u.node.term + 1))
+
     q-loses : (v : View) (p : Id) (m : Mode) → Queues P (disconnects.loses s v p m)
     q-loses v p Candidate = q-if _ _ [] (Other _ _ refl Ends) Ends
     q-loses v p Leader =
         q-if _ _ []
         (q-then s v (disconnects.drops_follower s p) (disconnects.goes_on_with_rest s) (Other _ _ refl (Other _ _ refl Ends))
-        (λ u. q-if (disconnects.keeps_quorum s u) _ _ (q-goes_on u) (q-becomes_candidate u)))
+        (λ u. q-if (disconnects.keeps_quorum s u) _ _ (q-goes_on u) (q-leads_anew u)))
         Ends
     q-loses v p (Follower leader) = q-if (same leader p) _ [] (q-append _ _ (q-becomes_candidate v) (Other _ _ refl Ends)) Ends
 

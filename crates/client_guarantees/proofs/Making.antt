@@ -1,5 +1,5 @@
 -- A value is only made right after the note that says so, of what the node then was: in each rule.
-use Rattle.std.proofs.Common.{◌≡◌, ℕ, Bool, true, false, true≢false, not, Option, None, Some, Result, Ok, Err, List, [], ◌∷◌, ◌++◌, refl, sym, subst}
+use Rattle.std.proofs.Common.{◌≡◌, ℕ, ◌+◌, Bool, true, false, true≢false, not, Option, None, Some, Result, Ok, Err, List, [], ◌∷◌, ◌++◌, refl, sym, subst}
 use Rattle.std.specs.Prelude.{◌&&◌, nat_le, if◌then◌else◌}
 use Rattle.voting_config.specs.Ids.{Id, same, has_room}
 use Rattle.bootstrap.specs.Decisions.{decision_of}
@@ -113,6 +113,9 @@ module _ (s : Settings) where
   p-hands_over : (v : View) → IsPlain (next.hands_over s v)
   p-hands_over v = search (p-if, p-asks_successor, Ends, Other)
 
+  p-asks_votes : (v : View) → IsPlain (next.asks_votes s v)
+  p-asks_votes v = search (p-asks_successor, Other)
+
   -- publications
   p-accepts : (v : View) (p : Id) (state : ClusterState) → IsPlain (publications.accepts s v p state)
   p-accepts v p state = search (p-if, p-becomes_follower, Ends, Other)
@@ -192,6 +195,12 @@ module _ (s : Settings) where
   p-takes_config v None = Ends
   p-takes_config v (Some config) = Other _ _ refl Ends
 
+  -- connections that have ended
+  p-leads_anew : (v : View) → IsPlain (disconnects.leads_anew s v)
+  p-leads_anew v =
+      p-then s v _ (λ u. elections.stands_for_election s u (u.node.term + 1)) (p-becomes_candidate v)
+      (λ u. p-stands_for_election u (u.node.term + 1))
+
   -- ticks
   p-times_out : (v : View) → IsPlain (requests.times_out_exclusions s v)
   p-times_out v = p-append _ _ (p-replies s _) (Other _ _ refl Ends)
@@ -242,10 +251,13 @@ module _ (s : Settings) where
       (subst (λ (u : View). Making s u (Notes StateMade ∷ (if is_nothing_new (as_master s v.node) v.tasks then [] else next.publishes s v (moved s v (Notes StateMade))))) (sym (past-replies s v answers))
       (m-made v (is_nothing_new (as_master s v.node) v.tasks)))
 
+  m-leads_on : (v : View) → Making s v (next.leads_on s v)
+  m-leads_on v = making-if s v (next.wants_votes s v) _ _ (plainly s v _ (p-asks_votes s v)) (m-makes_state v)
+
   m-goes_on : (v : View) → Making s v (next.goes_on s v)
   m-goes_on v =
       making-if s v (doing.is_leader v.mode && not (next.is_in_flight v.publication)) _ []
-      (making-if s v (doing.may_win s v) _ _ (m-makes_state v) (plainly s v _ (p-hands_over s v))) (Ended v)
+      (making-if s v (doing.may_win s v) _ _ (m-leads_on v) (plainly s v _ (p-hands_over s v))) (Ended v)
 
   m-leads : (v : View) → Making s v (joins.leads s v)
   m-leads v = making-then s v _ (next.goes_on s) (Other _ _ refl (Other _ _ refl Ends)) m-goes_on
@@ -282,7 +294,7 @@ module _ (s : Settings) where
 
   m-ticks_leader : (v : View) → Making s v (rules.ticks_leader s v)
   m-ticks_leader v =
-      making-if s v (rules.has_timed_out v.publication v.moment) _ _ (plainly s v _ (p-becomes_candidate s v))
+      making-if s v (rules.gives_up s v) _ _ (plainly s v _ (p-becomes_candidate s v))
       (making-then s v _ (next.goes_on s) (p-then s v _ (checks.checks_followers s) (p-times_out s v) (p-checks_followers s)) m-goes_on)
 
   m-ticks : (v : View) (word : ℕ) (m : Mode) → Making s v (rules.ticks s v word m)
@@ -295,7 +307,7 @@ module _ (s : Settings) where
   m-loses v p Leader =
       making-if s v _ _ []
       (making-then s v _ (disconnects.goes_on_with_rest s) (Other _ _ refl (Other _ _ refl Ends))
-      (λ u. making-if s u (disconnects.keeps_quorum s u) _ _ (m-goes_on u) (plainly s u _ (p-becomes_candidate s u))))
+      (λ u. making-if s u (disconnects.keeps_quorum s u) _ _ (m-goes_on u) (plainly s u _ (p-leads_anew s u))))
       (Ended v)
   m-loses v p (Follower leader) = plainly s v _ (p-if (same leader p) _ [] (p-append _ _ (p-becomes_candidate s v) (Other _ _ refl Ends)) Ends)
 

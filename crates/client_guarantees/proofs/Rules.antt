@@ -1,5 +1,5 @@
 -- What each rule tells and leaves: what it tells is true, and the node stands as it should between events.
-use Rattle.std.proofs.Common.{◌≡◌, ℕ, Bool, true, false, not, ◌&&◌, Option, None, Some, Result, Ok, Err, List, [], ◌∷◌, ◌++◌, refl, sym, ◌∙◌, ap, subst, ◌<◌, arith}
+use Rattle.std.proofs.Common.{◌≡◌, ℕ, ◌+◌, Bool, true, false, not, ◌&&◌, Option, None, Some, Result, Ok, Err, List, [], ◌∷◌, ◌++◌, refl, sym, ◌∙◌, ap, subst, ◌<◌, arith}
 use Rattle.std.specs.Prelude.{is_some, nat_le, nat_lt}
 use Rattle.std.proofs.lemmas.Bool.{both_ways, and_parts}
 use Rattle.voting_config.specs.Ids.{Id, same, among, has_room}
@@ -57,7 +57,7 @@ use Rattle.client_guarantees.proofs.Telling.{Basis, Up, place, true-later, grown
 use Rattle.client_guarantees.proofs.Leading.{IsDone, won-join}
 use Rattle.client_guarantees.proofs.Folding.{Each, each-last, IsAmong, Of}
 use Rattle.client_guarantees.proofs.Holding.{IsMade, Holds, IsReadyToGo, ready-holds, idle-holds, holds-waiting, holds-publish, holds-commit, holds-response, holds-join, each-left}
-use Rattle.client_guarantees.proofs.Steady.{Standing, steady_stands, Calm, Still, steady-if, steady-sends, steady-waits_for_election, steady-pre_vote_reply, steady-on_pre_vote_answer, steady-asks_peers, steady-checks_followers}
+use Rattle.client_guarantees.proofs.Steady.{Standing, steady_stands, Calm, Still, steady-if, steady-sends, steady-stands_for_election, steady-waits_for_election, steady-pre_vote_reply, steady-on_pre_vote_answer, steady-asks_peers, steady-checks_followers}
 use Rattle.client_guarantees.proofs.Answers.{left_none, HasDone, true-committed_in, true-exclusion_done, true-timed_out}
 use Rattle.client_guarantees.proofs.Modes.{keeps-becomes_candidate, keeps-becomes_follower, keeps-on_start_join, keeps-raises_term}
 use Rattle.client_guarantees.proofs.Backing.{HasCommittedId, TakesCommit, IsUnique}
@@ -317,13 +317,18 @@ module _ (h : History) (U : IsUnique h) (s : Settings) (P : Basis) where
   keeps-ticks v g word (Follower leader) e i = keeps-checks_leader v g leader v.leader_check i
 
   -- connections that have ended
+  keeps-leads_anew : (v : View) (g : List Waiting) → Keeps h s P v g (disconnects.leads_anew s v) (Holds h s P)
+  keeps-leads_anew v g =
+      keeps-then h s P v g _ (λ u. elections.stands_for_election s u (u.node.term + 1)) (Holds h s P) (Holds h s P) (keeps-becomes_candidate h s P v g)
+      (λ u f k. keeps-steady h s P u f _ (Holds h s P) (steady-stands_for_election s u (u.node.term + 1)) k)
+
   keeps-loses : (v : View) (g : List Waiting) (p : Id) (m : Mode) → Holds h s P (place v g) → Keeps h s P v g (disconnects.loses s v p m) (Holds h s P)
   keeps-loses v g p Candidate i = keeps-steady h s P v g _ (Holds h s P) (steady-if _ _ [] (Still _ _ refl Calm) Calm) i
   keeps-loses v g p Leader i =
       keeps-if h s P v g _ _ [] (Holds h s P)
       (λ e. keeps-then h s P v g (disconnects.drops_follower s p) (disconnects.goes_on_with_rest s) (Holds h s P) (Holds h s P)
       (keeps-steady h s P v g _ (Holds h s P) (Still _ _ refl (Still _ _ refl Calm)) i)
-      (λ u f k. keeps-if h s P u f (disconnects.keeps_quorum s u) _ _ (Holds h s P) (λ d. go_on u f k) (λ d. keeps-becomes_candidate h s P u f)))
+      (λ u f k. keeps-if h s P u f (disconnects.keeps_quorum s u) _ _ (Holds h s P) (λ d. go_on u f k) (λ d. keeps-leads_anew u f)))
       (λ e. nothing v g i)
   keeps-loses v g p (Follower leader) i =
       keeps-if h s P v g (same leader p) _ [] (Holds h s P)

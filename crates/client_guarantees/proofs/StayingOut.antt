@@ -3,7 +3,7 @@ use Rattle.std.proofs.Common.{◌≡◌, ℕ, zero, suc, Bool, true, false, not,
 use Rattle.std.specs.Prelude.{if◌then◌else◌}
 use Rattle.std.proofs.lemmas.Bool.{or_parts}
 use Rattle.std.proofs.lemmas.List.Folds.{list_any-append}
-use Rattle.voting_config.specs.Ids.{Id, has, same, same_config, among, outside, is_quorum_of}
+use Rattle.voting_config.specs.Ids.{Id, has, same, among, outside, is_quorum_of}
 use Rattle.voting_config.proofs.Sets.{same_is, has-set_of}
 use Rattle.cluster_state.specs.declared.state.ClusterState.{ClusterState}
 use Rattle.cluster_state.specs.declared.state.ClusterValue.{ClusterValue}

@@ -140,7 +140,7 @@ module _ (s : Settings) where
   pub steady-asks_votes : (v : View) → IsSteady (next.asks_votes s v)
   steady-asks_votes v = search (steady-asks_successor, Still)
 
-  steady-stands_for_election : (v : View) (term : ℕ) → IsSteady (elections.stands_for_election s v term)
+  pub steady-stands_for_election : (v : View) (term : ℕ) → IsSteady (elections.stands_for_election s v term)
   steady-stands_for_election v term = search (steady-if, steady-sends, Calm, Still)
 
   steady-waits_until : (v : View) (word : ℕ) (o : Option ℕ) → IsSteady (elections.waits_until s v word o)
