@@ -5,7 +5,7 @@ use super::passages::{A_LEADS_THREE, Passage, THREE};
 use std::alloc::{AllocError, Global};
 use std::test::Fail;
 
-// A leader goes on with a quorum, and stands down with the last follower of it. What waits fails.
+// A leader goes on with a quorum, and stands down with the last follower of it: it asks all for their votes. What waits fails.
 const STANDS_DOWN: Passage = &[
     "> disconnect a b",
     r#"act a ok value 3 a,b,c {"exclusions":[],"master":"a","members":["a","c"],"settings":{}}"#,
@@ -16,6 +16,9 @@ const STANDS_DOWN: Passage = &[
     "> disconnect a c",
     "mode a candidate 1",
     "drop a c disconnect",
+    "m32 a->a startjoin a 2",
+    "m33 a->b startjoin a 2",
+    "m34 a->c startjoin a 2",
     r#"reply a {"failed_to_commit":1,"id":1}"#,
     "> disconnect a c",
 ];
@@ -28,18 +31,18 @@ const FOLLOWS_ON: Passage = &[
     r#"reply b {"id":1,"not_master":"a"}"#,
 ];
 
-// Both followers lose their leader. They ask their peers 50 ms later, and hear that no one has a master.
+// Both followers lose their leader. They ask their peers 100 ms later, and hear that no one has a master.
 const BOTH_LOSE_THEIR_LEADER: Passage = &[
     "> disconnect b a",
     "mode b candidate 1",
     "> disconnect c a",
     "mode c candidate 1",
-    "> tick b 49 7",
-    "> tick c 49 7",
-    "> tick b 50 7",
+    "> tick b 99 7",
+    "> tick c 99 7",
+    "> tick b 100 7",
     "m30 b->a peersask a,c",
     "m31 b->c peersask a,c",
-    "> tick c 50 7",
+    "> tick c 100 7",
     "m32 c->a peersask a,b",
     "m33 c->b peersask a,b",
     "> deliver c 31",
@@ -53,21 +56,21 @@ const BOTH_LOSE_THEIR_LEADER: Passage = &[
 // A candidate forgets the answer of a node that it loses, and asks again at once; of one that has not answered there is nothing to forget.
 const FORGETS_THE_ANSWER: Passage = &[
     "> disconnect b c",
-    "> tick b 60 7",
+    "> tick b 110 7",
     "m36 b->a peersask a,c",
     "m37 b->c peersask a,c",
-    "> tick b 68 7",
+    "> tick b 118 7",
     "> disconnect b c",
-    "> tick b 69 7",
+    "> tick b 119 7",
 ];
 
-// The first in line stands after its wait of 8 ms, and the second would 500 ms later.
-const FIRST_IN_LINE_STANDS: Passage = &[
-    "> tick b 60 7",
-    "> tick c 60 7",
-    "> tick b 67 7",
-    "> tick c 68 7",
-    "> tick b 68 7",
+// b, before which only the dead leader comes, stands after its wait of 8 ms. c has waited as long, but leaves b the time of an election.
+const FIRST_STANDS: Passage = &[
+    "> tick b 110 7",
+    "> tick c 110 7",
+    "> tick b 117 7",
+    "> tick c 118 7",
+    "> tick b 118 7",
     "m36 b->c prevoteask",
     "> deliver c 36",
     "m37 c->b prevoteanswer 1 1/2",
@@ -77,10 +80,14 @@ const FIRST_IN_LINE_STANDS: Passage = &[
     "m40 b->c startjoin b 2",
 ];
 
-// The second in line joins nobody, and stands 500 ms after its wait.
-const SECOND_STANDS_LATER: Passage = &["> tick c 567 7", "> tick c 568 7", "m41 c->b prevoteask"];
+// c joins nobody, and stands 500 ms after its wait.
+const SECOND_STANDS_500_MS_LATER: Passage = &[
+    "> tick c 617 7",
+    "> tick c 618 7",
+    "m41 c->b prevoteask",
+];
 
-// It joins the first, which then is not heard of. So it waits anew from its next tick on, as the third.
+// c joins b, which then is not heard of. So it waits anew from its next tick on, and leaves b its time once more.
 const SECOND_WAITS_ANEW: Passage = &[
     "> deliver b 39",
     "...",
@@ -88,13 +95,10 @@ const SECOND_WAITS_ANEW: Passage = &[
     "> deliver c 40",
     "act c ok startjoin b 2",
     "m42 c->b join 2 1/2",
-    "> tick c 69 7",
-    "> tick c 568 7",
-    "> tick c 1076 7",
-    "m43 c->a peersask a,b",
-    "m44 c->b peersask a,b",
-    "> tick c 1077 7",
-    "m45 c->b prevoteask",
+    "> tick c 119 7",
+    "> tick c 626 7",
+    "> tick c 627 7",
+    "m43 c->b prevoteask",
 ];
 
 // The first leads, drops the dead leader as it learns that it is gone, and its state is committed.
@@ -138,45 +142,48 @@ const FIRST_LEADS: Passage = &[
     "...",
 ];
 
-// Its leader stands down and says no to its checks. It has taken a commit since, so it is in no line any more and waits 8 ms alone.
-const IN_NO_LINE: Passage = &[
+// Its leader stands down and says no to its checks. c has taken a commit since it lost a, so it waits 8 ms alone.
+const LOSS_IS_OVER: Passage = &[
     "> disconnect b c",
     "mode b candidate 2",
     "drop b c disconnect",
-    "> tick c 1069 7",
-    "m52 c->b leadercheck 2",
-    "> deliver b 52",
-    "m53 b->c leaderanswer no",
-    "> deliver c 53",
-    "> tick c 2069 7",
-    "m54 c->b leadercheck 2",
-    "> deliver b 54",
-    "m55 b->c leaderanswer no",
-    "> deliver c 55",
-    "> tick c 3069 7",
-    "m56 c->b leadercheck 2",
-    "> deliver b 56",
-    "m57 b->c leaderanswer no",
-    "> deliver c 57",
-    "> tick c 3070 7",
-    "mode c candidate 2",
-    "> tick c 3071 7",
-    "m58 c->a peersask a,b",
-    "m59 c->b peersask a,b",
+    "m52 b->a startjoin b 3",
+    "m53 b->b startjoin b 3",
+    "m54 b->c startjoin b 3",
+    "> tick c 1119 7",
+    "m55 c->b leadercheck 2",
+    "> deliver b 55",
+    "m56 b->c leaderanswer no",
+    "> deliver c 56",
+    "> tick c 2119 7",
+    "m57 c->b leadercheck 2",
+    "> deliver b 57",
+    "m58 b->c leaderanswer no",
+    "> deliver c 58",
+    "> tick c 3119 7",
+    "m59 c->b leadercheck 2",
     "> deliver b 59",
-    "m60 b->c peersanswer _ 2 a,b,c",
+    "m60 b->c leaderanswer no",
     "> deliver c 60",
-    "> tick c 3080 7",
-    "> tick c 3087 7",
-    "> tick c 3088 7",
-    "m61 c->b prevoteask",
+    "> tick c 3120 7",
+    "mode c candidate 2",
+    "> tick c 3121 7",
+    "m61 c->a peersask a,b",
+    "m62 c->b peersask a,b",
+    "> deliver b 62",
+    "m63 b->c peersanswer _ 2 a,b,c",
+    "> deliver c 63",
+    "> tick c 3130 7",
+    "> tick c 3137 7",
+    "> tick c 3138 7",
+    "m64 c->b prevoteask",
 ];
 
 // Only voters that may lead come before a node: c is the first where b is voting-only.
 const PAST_A_VOTING_ONLY_NODE: Passage = &[
-    "> tick c 60 7",
-    "> tick c 67 7",
-    "> tick c 68 7",
+    "> tick c 110 7",
+    "> tick c 117 7",
+    "> tick c 118 7",
     "m36 c->b prevoteask",
 ];
 
@@ -198,31 +205,27 @@ const ROWS: &[(&str, Passage, &[Passage])] = &[
         &[BOTH_LOSE_THEIR_LEADER, FORGETS_THE_ANSWER],
     ),
     (
-        "the_second_in_line_stands_500_ms_later",
+        "the_second_stands_500_ms_later",
         THREE,
         &[
             BOTH_LOSE_THEIR_LEADER,
-            FIRST_IN_LINE_STANDS,
-            SECOND_STANDS_LATER,
+            FIRST_STANDS,
+            SECOND_STANDS_500_MS_LATER,
         ],
     ),
     (
-        "who_joins_another_waits_anew_one_place_later",
+        "who_joins_another_waits_anew",
         THREE,
-        &[
-            BOTH_LOSE_THEIR_LEADER,
-            FIRST_IN_LINE_STANDS,
-            SECOND_WAITS_ANEW,
-        ],
+        &[BOTH_LOSE_THEIR_LEADER, FIRST_STANDS, SECOND_WAITS_ANEW],
     ),
     (
-        "a_commit_takes_a_node_out_of_the_line",
+        "a_commit_ends_the_loss",
         THREE,
         &[
             BOTH_LOSE_THEIR_LEADER,
-            FIRST_IN_LINE_STANDS,
+            FIRST_STANDS,
             FIRST_LEADS,
-            IN_NO_LINE,
+            LOSS_IS_OVER,
         ],
     ),
     (
