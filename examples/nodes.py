@@ -1,6 +1,7 @@
 """Nodes on this machine, each a process of its own over loopback sockets and a folder, and clients of them. For examples/cluster and bench/node."""
 import json
 import os
+import queue
 import random
 import signal
 import socket
@@ -134,6 +135,88 @@ class Client:
     def ask(self, request):
         self.send(request)
         return self.reply()
+
+
+class Line:
+    """A port by which a node is reached a little later, in both directions. It can be stalled: then nothing comes through, and nothing ends."""
+
+    def __init__(self, port, delay):
+        self.port, self.delay = port, delay
+        self.goes = threading.Event()
+        self.goes.set()
+        self.listener = socket.socket()
+        self.listener.bind((HOST, 0))
+        self.listener.listen(64)
+        self.own_port = self.listener.getsockname()[1]
+        threading.Thread(target=self.accept, daemon=True).start()
+
+    def accept(self):
+        while True:
+            try:
+                near = self.listener.accept()[0]
+            except OSError:
+                return
+            try:
+                far = socket.create_connection((HOST, self.port), timeout=5)
+            except OSError:
+                near.close()
+                continue
+            for end in near, far:
+                end.settimeout(None)
+                end.setsockopt(socket.IPPROTO_TCP, socket.TCP_NODELAY, 1)
+            threading.Thread(target=self.hand_on, args=(near, far), daemon=True).start()
+            threading.Thread(target=self.hand_on, args=(far, near), daemon=True).start()
+
+    def hand_on(self, source, target):
+        """Hands on what comes from one end to the other, each piece `delay` seconds after it came, and at last the end."""
+        pieces = queue.Queue()
+        threading.Thread(target=self.send, args=(pieces, target), daemon=True).start()
+        piece = b'.'
+        while piece:
+            try:
+                piece = source.recv(65536)
+            except OSError:
+                piece = b''
+            pieces.put((time.monotonic() + self.delay, piece))
+
+    def send(self, pieces, target):
+        while True:
+            due, piece = pieces.get()
+            time.sleep(max(0, due - time.monotonic()))
+            self.goes.wait()
+            try:
+                if not piece:
+                    target.shutdown(socket.SHUT_RDWR)
+                    return
+                target.sendall(piece)
+            except OSError:
+                return
+
+    def close(self):
+        self.goes.set()
+        self.listener.close()
+
+
+def started_over_lines(program, names, top, delay, words=()):
+    """New nodes that reach each other over lines, with these words more. Gives the nodes, and the lines by the node that they lead to."""
+    ports = free_ports(names)
+    lines = {name: Line(ports[name], delay) for name in names}
+    nodes = {name: Node(program, name, top) for name in names}
+    try:
+        for name, node in nodes.items():
+            node.settle({other: ports[name] if other == name else lines[other].own_port for other in names})
+            node.words += list(words)
+        threads = [threading.Thread(target=node.start) for node in nodes.values()]
+        for thread in threads:
+            thread.start()
+        for thread in threads:
+            thread.join()
+        if not all(node.is_up() for node in nodes.values()):
+            raise Broken('a node does not start')
+    except BaseException:
+        end(nodes)
+        raise
+    return nodes, lines
 
 
 def free_ports(names):
