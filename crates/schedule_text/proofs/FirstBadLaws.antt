@@ -1,5 +1,5 @@
 -- A fault names the first bad line.
-use Rattle.std.proofs.Common.{◌≡◌, ℕ, suc, ◌+◌, ◌-◌, ◌<◌, ◌≤◌, ◌≢◌, Bool, true, false, ◌&&◌, List, [], ◌∷◌, ◌++◌, length, Option, Some, Result, Ok, Err, refl, sym, ap, subst, ◌∙◌, append_assoc, arith, inl, inr}
+use Rattle.std.proofs.Common.{◌≡◌, ℕ, suc, ◌+◌, ◌-◌, ◌<◌, ◌≤◌, ◌≢◌, Bool, true, false, cond, ◌&&◌, List, [], ◌∷◌, ◌++◌, length, Option, Some, Result, Ok, Err, refl, sym, ap, subst, ◌∙◌, append_assoc, arith, inl, inr}
 use Rattle.std.specs.Prelude.{codes, nat_lt, nat_le, if◌then◌else◌}
 use Rattle.std.specs.List.{list_all, join_with_byte}
 use Rattle.std.proofs.lemmas.Bool.{and_parts, and_from, cases_lt}
@@ -8,18 +8,20 @@ use Rattle.std.proofs.lemmas.List.{length-append}
 use Rattle.std.proofs.lemmas.Slice.Eq.{bytes_eq-Decides}
 use Rattle.voting_config.specs.Ids.{Id, is_id, most_ids, are_among}
 use Rattle.schedule_text.specs.declared.fault.WhyBad.{WhyBad}
+use Rattle.schedule_text.specs.declared.fault.WhyBad.TheVariants as why
+use Rattle.schedule_text.specs.Words.{is_some_list}
 use Rattle.schedule_text.specs.declared.fault.BadSchedule.{BadSchedule}
 use Rattle.schedule_text.specs.declared.level.Level.{Level}
 use Rattle.schedule_text.specs.declared.place.Place.{Place}
 use Rattle.schedule_text.specs.declared.schedule.Line.{Line}
 use Rattle.schedule_text.specs.declared.schedule.Schedule.{Schedule}
 use Rattle.voting_config.specs.Lists.{list_text, may_follow, are_ids_after}
-use Rattle.schedule_text.specs.Reading.{first_place, after_line, in_line, ◌>>>◌, header_at, header_of_some_at, is_third, end_at, no_initial, first_line_at, second_line_at, third_line_at, one_line_at, lines_at, pieces, with_lines_at, voting_only_at, initial_at, no_schedule, nodes_at, schedule_at, fault_in, fault_of}
+use Rattle.schedule_text.specs.Reading.{first_place, after_line, in_line, ◌>>>◌, header_at, passing, is_named, end_at, no_initial, first_line_at, second_line_at, voting_only_line_at, profile_line_at, one_line_at, lines_at, pieces, with_lines_at, optional_at, profile_at, voting_only_at, initial_at, no_schedule, nodes_at, schedule_at, fault_in, fault_of}
 use Rattle.schedule_text.specs.Spelled.{with_feeds}
 use Rattle.schedule_text.specs.FirstBad.{first_lines, BeginsSchedule, IsFirstBad, LawFirstBadLine}
 use Rattle.schedule_text.proofs.WordLaws.{lacks, join_split, parts_lack, parts_not_empty}
-use Rattle.schedule_text.proofs.FirstLines.{first_line, feeds_more, feeds_join, first_feeds, fewer_lines, same_head, same_alone}
-use Rattle.schedule_text.proofs.ScheduleLaws.{read, then_ok, IsSized, sized_takes, sized_again, header_takes, header_lacks, some_again, more_lines, more_tail, more_initial, ended, feeds_split, join_more, schedule_takes, schedule_again}
+use Rattle.schedule_text.proofs.FirstLines.{heads, first_line, feeds_more, feeds_join, first_feeds, fewer_lines, same_head, same_alone}
+use Rattle.schedule_text.proofs.ScheduleLaws.{read, then_ok, IsSized, some_list, header_takes, header_again, header_lacks, more_lines, optional_there, optional_absent, more_initial, ended, feeds_split, join_more, schedule_takes, schedule_again}
 
 -- ---- faults
 
@@ -50,6 +52,10 @@ initial_err {A} p (b ∷ bs) bad e = number_is p.number _ bad (failed_is {A = A}
 map_err : {A B : Type 0} (r : Result A BadSchedule) (f : A → B) (bad : BadSchedule) → (r >>> λ x. read (f x)) ≡ Err bad → r ≡ Err bad
 map_err (Ok x) f bad e = absurd cc
 map_err {A} {B} (Err d) f bad e = ap (λ b. failed {A = A} b) (failed_is {A = B} d bad e)
+
+pass_err : (b : Bool) (p : Place) (xs : List Id) (bad : BadSchedule) → cond b (read xs) (Err (record { line = p.number; why = why.Header })) ≡ Err bad → bad.line ≡ p.number
+pass_err true p xs bad e = absurd cc
+pass_err false p xs bad e = number_is p.number why.Header bad (failed_is {A = List Id} _ bad e)
 
 -- ---- where a reader of parts stops
 
@@ -93,23 +99,23 @@ stops_cut reads start line bad more value l e number more_lack again =
     stops_at_once reads start (line ∷ []) bad more value number more_lack again
     (λ others x k some same is. not_both (reads others) x bad is (ap reads (same_alone line others k l some same) ∙ e))
 
--- a reader of parts by a reader of the first one, where others follow
-module _ {A X : Type 0} (reads : List (List ℕ) → Result A BadSchedule) (one : List ℕ → Result X BadSchedule) (next : List ℕ → X → List (List ℕ) → Result A BadSchedule) (goes : (line : List ℕ) (rest : List (List ℕ)) → rest ≢ [] → reads (line ∷ rest) ≡ (one line >>> λ x. next line x rest)) where
-  reads_as : (line : List ℕ) (rest : List (List ℕ)) (r : Result X BadSchedule) → rest ≢ [] → one line ≡ r → reads (line ∷ rest) ≡ (r >>> λ x. next line x rest)
-  reads_as line rest r some e = goes line rest some ∙ ap (λ s. s >>> λ x. next line x rest) e
+-- a reader of parts that begin with this line, by what that is read as, where others follow
+module _ {A X : Type 0} (reads : List (List ℕ) → Result A BadSchedule) (line : List ℕ) (one : Result X BadSchedule) (next : X → List (List ℕ) → Result A BadSchedule) (goes : (rest : List (List ℕ)) → rest ≢ [] → reads (line ∷ rest) ≡ (one >>> λ x. next x rest)) where
+  reads_as : (rest : List (List ℕ)) (r : Result X BadSchedule) → rest ≢ [] → one ≡ r → reads (line ∷ rest) ≡ (r >>> λ x. next x rest)
+  reads_as rest r some e = goes rest some ∙ ap (λ s. s >>> λ x. next x rest) e
 
   -- at this line
-  stops_here : (start : ℕ) (line : List ℕ) (rest : List (List ℕ)) (bad : BadSchedule) (more : List (List ℕ)) (value : A) → rest ≢ [] → lacks 10 line ≡ true → one line ≡ Err bad → bad.line ≡ start
+  stops_here : (start : ℕ) (rest : List (List ℕ)) (bad : BadSchedule) (more : List (List ℕ)) (value : A) → rest ≢ [] → lacks 10 line ≡ true → one ≡ Err bad → bad.line ≡ start
       → list_all (lacks 10) more ≡ true → reads (more ++ [] ∷ []) ≡ Ok value → Stops reads start (line ∷ rest) bad
-  stops_here start line rest bad more value some l e number more_lack again =
+  stops_here start rest bad more value some l e number more_lack again =
       stops_at_once reads start (line ∷ rest) bad more value number more_lack again
       (λ others x k other same is.
       let head = same_head 0 line rest others k l other some same in
-      not_both (reads others) x bad is (ap reads head.whole ∙ reads_as line head.others (Err bad) head.some e))
+      not_both (reads others) x bad is (ap reads head.whole ∙ reads_as head.others (Err bad) head.some e))
 
   -- at a later one
-  stops_later : (start : ℕ) (line : List ℕ) (rest : List (List ℕ)) (bad : BadSchedule) (x : X) → rest ≢ [] → lacks 10 line ≡ true → one line ≡ Ok x → Stops (next line x) (start + 1) rest bad → Stops reads start (line ∷ rest) bad
-  stops_later start line rest bad x some l e later = record {
+  stops_later : (start : ℕ) (rest : List (List ℕ)) (bad : BadSchedule) (x : X) → rest ≢ [] → lacks 10 line ≡ true → one ≡ Ok x → Stops (next x) (start + 1) rest bad → Stops reads start (line ∷ rest) bad
+  stops_later start rest bad x some l e later = record {
     good = line ∷ later.good;
     number = omega (arith, later.number);
     begin = ap (first_lines (suc (length later.good))) (join_more 10 line rest some) ∙ first_line (length later.good) line (join_with_byte 10 rest) l ∙ ap (λ t. line ++ 10 ∷ t) later.begin ∙ sym (feeds_more line later.good);
@@ -117,12 +123,52 @@ module _ {A X : Type 0} (reads : List (List ℕ) → Result A BadSchedule) (one 
     more = later.more;
     more_lack = later.more_lack;
     value = later.value;
-    again = reads_as line (later.good ++ (later.more ++ [] ∷ [])) (Ok x) (ended_twice later.good later.more) e ∙ later.again;
+    again = reads_as (later.good ++ (later.more ++ [] ∷ [])) (Ok x) (ended_twice later.good later.more) e ∙ later.again;
     here = λ others y k other same is.
         let head = same_head (suc (length later.good)) line rest others k l other some same in
         let lacks_all = and_parts (lacks 10 line) _ (subst (λ (ps : List (List ℕ)). list_all (lacks 10) ps ≡ true) head.whole k) in
-        later.here head.others y lacks_all.1 head.some head.same (sym (ap reads head.whole ∙ reads_as line head.others (Ok x) head.some e) ∙ is);
+        later.here head.others y lacks_all.1 head.some head.same (sym (ap reads head.whole ∙ reads_as head.others (Ok x) head.some e) ∙ is);
   }
+
+-- the same of a reader that reads what begins with this line as another does
+module _ {A : Type 0} (reads reads_so : List (List ℕ) → Result A BadSchedule) (line : List ℕ) (so : (rest : List (List ℕ)) → reads (line ∷ rest) ≡ reads_so (line ∷ rest)) where
+  record Again (good : List (List ℕ)) : Type 0 where
+    more : List (List ℕ)
+    more_lack : list_all (lacks 10) more ≡ true
+    value : A
+    again : reads (good ++ (more ++ [] ∷ [])) ≡ Ok value
+
+  again_so : (rest : List (List ℕ)) (value : A) → rest ≢ [] → lacks 10 line ≡ true → reads ([] ∷ []) ≡ Ok value → (good : List (List ℕ)) → list_all (lacks 10) good ≡ true
+      → first_lines (length good) (join_with_byte 10 (line ∷ rest)) ≡ with_feeds good → (more : List (List ℕ)) → list_all (lacks 10) more ≡ true → (x : A) → reads_so (good ++ (more ++ [] ∷ [])) ≡ Ok x → Again good
+  again_so rest value some l none [] lack begin more more_lack x e = record { more = []; more_lack = refl; value = value; again = none }
+  again_so rest value some l none (g ∷ gs) lack begin more more_lack x e =
+      let n = length gs in
+      let bytes = sym (first_line n line (join_with_byte 10 rest) l) ∙ ap (first_lines (suc n)) (sym (join_more 10 line rest some)) ∙ begin ∙ feeds_more g gs in
+      let same = (heads line g (first_lines n (join_with_byte 10 rest)) (with_feeds gs) l (and_parts (lacks 10 g) _ lack).0 bytes).0 in
+      record {
+        more = more;
+        more_lack = more_lack;
+        value = x;
+        again = subst (λ (t : List ℕ). reads (t ∷ (gs ++ (more ++ [] ∷ []))) ≡ Ok x) same
+            (so (gs ++ (more ++ [] ∷ [])) ∙ subst (λ (t : List ℕ). reads_so (t ∷ (gs ++ (more ++ [] ∷ []))) ≡ Ok x) (sym same) e);
+      }
+
+  stops_so : (start : ℕ) (rest : List (List ℕ)) (bad : BadSchedule) (value : A) → rest ≢ [] → lacks 10 line ≡ true → reads ([] ∷ []) ≡ Ok value → Stops reads_so start (line ∷ rest) bad → Stops reads start (line ∷ rest) bad
+  stops_so start rest bad value some l none s =
+      let a = again_so rest value some l none s.good s.lack s.begin s.more s.more_lack s.value s.again in
+      record {
+        good = s.good;
+        number = s.number;
+        begin = s.begin;
+        lack = s.lack;
+        more = a.more;
+        more_lack = a.more_lack;
+        value = a.value;
+        again = a.again;
+        here = λ others x k other same is.
+            let head = same_head (length s.good) line rest others k l other some same in
+            s.here others x k other same (ap reads_so head.whole ∙ sym (so head.others) ∙ sym (ap reads head.whole) ∙ is);
+      }
 
 stops_map : {A B : Type 0} (reads : List (List ℕ) → Result A BadSchedule) (f : A → B) (start : ℕ) (parts : List (List ℕ)) (bad : BadSchedule) → Stops reads start parts bad → Stops (λ ps. reads ps >>> λ x. read (f x)) start parts bad
 stops_map reads f start parts bad s = record {
@@ -146,85 +192,86 @@ lines_stop level ids p prefix [] bad some k e = absurd (some refl)
 lines_stop level ids p prefix (line ∷ []) bad some k e = stops_cut (lines_at level ids p prefix) p.number line bad [] prefix (and_parts (lacks 10 line) _ k).0 e (end_err p line prefix bad e) refl refl
 lines_stop level ids p prefix (line ∷ rest ∷ more) bad some k e =
     let lack = and_parts (lacks 10 line) _ k in
-    let next = λ (t : List ℕ) (l : Line) (ps : List (List ℕ)). lines_at level ids (after_line p t) (prefix ++ l ∷ []) ps in
-    let goes = more_lines level ids p prefix in
-    elim (one_line_at level ids p line) as (λ r. one_line_at level ids p line ≡ r → (r >>> λ l. next line l (rest ∷ more)) ≡ Err bad → Stops (lines_at level ids p prefix) p.number (line ∷ rest ∷ more) bad) [
-      | Ok l ↦ λ is h. stops_later (lines_at level ids p prefix) (one_line_at level ids p) next goes p.number line (rest ∷ more) bad l (λ x. absurd cc) lack.0 is (lines_stop level ids (after_line p line) (prefix ++ l ∷ []) (rest ∷ more) bad (λ x. absurd cc) lack.1 h)
+    let next = λ (l : Line) (ps : List (List ℕ)). lines_at level ids (after_line p line) (prefix ++ l ∷ []) ps in
+    let goes = more_lines level ids p prefix line in
+    let reads = lines_at level ids p prefix in
+    elim (one_line_at level ids p line) as (λ r. one_line_at level ids p line ≡ r → (r >>> λ l. next l (rest ∷ more)) ≡ Err bad → Stops reads p.number (line ∷ rest ∷ more) bad) [
+      | Ok l ↦ λ is h.
+          let later = lines_stop level ids (after_line p line) (prefix ++ l ∷ []) (rest ∷ more) bad (λ x. absurd cc) lack.1 h in
+          stops_later reads line (one_line_at level ids p line) next goes p.number (rest ∷ more) bad l (λ x. absurd cc) lack.0 is later
       | Err d ↦ λ is h.
           let same = is ∙ ap (λ b. failed {A = Line} b) (failed_is {A = List Line} d bad h) in
-          stops_here (lines_at level ids p prefix) (one_line_at level ids p) next goes p.number line (rest ∷ more) bad [] prefix (λ x. absurd cc) lack.0 same (in_line_err p _ bad same) refl refl
+          stops_here reads line (one_line_at level ids p line) next goes p.number (rest ∷ more) bad [] prefix (λ x. absurd cc) lack.0 same (in_line_err p _ bad same) refl refl
     ] refl e
 
--- ---- the third header line, and the lines
+-- ---- a line that may stand here
 
--- what stands first after the header's first two lines: its third one, or a line of the schedule
-data Begun : Type 0 where
-  Third : List Id → Begun
-  First : Line → Begun
+module _ {X : Type 0} (is_there : List ℕ → Bool) (read_line : Place → List ℕ → Result X BadSchedule) (none : X) (next : X → Place → List (List ℕ) → Result Schedule BadSchedule) where
+  abbrev reads_optional : Place → List (List ℕ) → Result Schedule BadSchedule
+  reads_optional = optional_at is_there read_line none next
+
+  optional_stop : (p : Place) (parts : List (List ℕ)) (bad : BadSchedule) (value : Schedule) → next none p ([] ∷ []) ≡ Ok value
+      → ((line : List ℕ) (d : BadSchedule) → read_line p line ≡ Err d → d.line ≡ p.number)
+      → ((line : List ℕ) → next none p (line ∷ []) ≡ Err bad → bad.line ≡ p.number)
+      → (next none p parts ≡ Err bad → Stops (next none p) p.number parts bad)
+      → ((line : List ℕ) (x : X) (rest : List (List ℕ)) → rest ≢ [] → list_all (lacks 10) rest ≡ true → next x (after_line p line) rest ≡ Err bad → Stops (next x (after_line p line)) (p.number + 1) rest bad)
+      → parts ≢ [] → list_all (lacks 10) parts ≡ true → reads_optional p parts ≡ Err bad → Stops (reads_optional p) p.number parts bad
+  optional_stop p [] bad value last line_err cut_err absent there some k e = absurd (some refl)
+  optional_stop p (line ∷ []) bad value last line_err cut_err absent there some k e =
+      stops_cut (reads_optional p) p.number line bad [] value (and_parts (lacks 10 line) _ k).0 e (cut_err line e) refl last
+  optional_stop p (line ∷ rest ∷ more) bad value last line_err cut_err absent there some k e =
+      let lack = and_parts (lacks 10 line) _ k in
+      let go = λ (x : X) (ps : List (List ℕ)). next x (after_line p line) ps in
+      elim (is_there line) as (λ b. is_there line ≡ b → (if b then (read_line p line >>> λ x. go x (rest ∷ more)) else next none p (line ∷ rest ∷ more)) ≡ Err bad → Stops (reads_optional p) p.number (line ∷ rest ∷ more) bad) [
+        | true ↦ λ is h.
+            let goes = λ (ps : List (List ℕ)) (others : ps ≢ []). optional_there is_there read_line none next p line ps others is in
+            elim (read_line p line) as (λ r. read_line p line ≡ r → (r >>> λ x. go x (rest ∷ more)) ≡ Err bad → Stops (reads_optional p) p.number (line ∷ rest ∷ more) bad) [
+              | Ok x ↦ λ got f.
+                  stops_later (reads_optional p) line (read_line p line) go goes p.number (rest ∷ more) bad x (λ y. absurd cc) lack.0 got (there line x (rest ∷ more) (λ y. absurd cc) lack.1 f)
+              | Err d ↦ λ got f.
+                  let same = got ∙ ap (λ b. failed {A = X} b) (failed_is {A = Schedule} d bad f) in
+                  stops_here (reads_optional p) line (read_line p line) go goes p.number (rest ∷ more) bad [] value (λ y. absurd cc) lack.0 same (line_err line bad same) refl last
+            ] refl h
+        | false ↦ λ is h.
+            let so = λ (ps : List (List ℕ)). optional_absent is_there read_line none next p line ps is in
+            stops_so (reads_optional p) (next none p) line so p.number (rest ∷ more) bad value (λ y. absurd cc) lack.0 last (absent h)
+      ] refl e
+
+-- ---- the profile and the voting-only nodes, and the lines
+
+header_err : (name : List ℕ) (good : List Id → Bool) (p : Place) (line : List ℕ) (bad : BadSchedule) → (header_at name p line >>> passing good p) ≡ Err bad → bad.line ≡ p.number
+header_err name good p line bad e =
+    elim (header_at name p line) as (λ r. header_at name p line ≡ r → (r >>> passing good p) ≡ Err bad → bad.line ≡ p.number) [
+      | Ok xs ↦ λ is h. pass_err (good xs) p xs bad h
+      | Err d ↦ λ is h. in_line_err p _ bad (is ∙ ap (λ b. failed {A = List Id} b) (failed_is {A = List Id} d bad h))
+    ] refl e
 
 module _ (level : Level) (ids initial : List Id) where
-  abbrev made : List Id → List Line → Schedule
-  made voting_only lines = record { nodes = ids; initial = initial; voting_only = voting_only; lines = lines }
+  abbrev made : List Id → Bool → List Line → Schedule
+  made voting_only second lines = record { nodes = ids; initial = initial; voting_only = voting_only; second = second; lines = lines }
 
-  abbrev begun_by : Bool → Place → List ℕ → Result Begun BadSchedule
-  begun_by third p line = if third then (third_line_at ids p line >>> λ xs. read (Third xs)) else (one_line_at level ids p line >>> λ l. read (First l))
+  with_stop : (voting_only : List Id) (second : Bool) (p : Place) (parts : List (List ℕ)) (bad : BadSchedule) → parts ≢ [] → list_all (lacks 10) parts ≡ true → with_lines_at level ids initial voting_only second p parts ≡ Err bad
+      → Stops (with_lines_at level ids initial voting_only second p) p.number parts bad
+  with_stop voting_only second p parts bad some k e =
+      let lines = lines_at level ids p [] in
+      stops_map lines (made voting_only second) p.number parts bad (lines_stop level ids p [] parts bad some k (map_err (lines parts) (made voting_only second) bad e))
 
-  abbrev begun_at : Place → List ℕ → Result Begun BadSchedule
-  begun_at p line = begun_by (is_third level line) p line
+  cut_err : (voting_only : List Id) (second : Bool) (p : Place) (line : List ℕ) (bad : BadSchedule) → with_lines_at level ids initial voting_only second p (line ∷ []) ≡ Err bad → bad.line ≡ p.number
+  cut_err voting_only second p line bad e = end_err {A = List Line} p line [] bad (map_err (lines_at level ids p [] (line ∷ [])) (made voting_only second) bad e)
 
-  abbrev goes_on : Place → List ℕ → Begun → List (List ℕ) → Result Schedule BadSchedule
-  goes_on p line (Third xs) parts = with_lines_at level ids initial xs (after_line p line) parts
-  goes_on p line (First l) parts = lines_at level ids (after_line p line) (l ∷ []) parts >>> λ lines. read (made [] lines)
-
-  lines_go : (p : Place) (line : List ℕ) (rest : List (List ℕ)) (r : Result Line BadSchedule)
-      → ((r >>> λ l. lines_at level ids (after_line p line) ([] ++ l ∷ []) rest) >>> λ lines. read (made [] lines)) ≡ ((r >>> λ l. read (First l)) >>> λ x. goes_on p line x rest)
-  lines_go p line rest (Ok l) = refl
-  lines_go p line rest (Err d) = refl
-
-  third_goes : (p : Place) (line : List ℕ) (rest : List (List ℕ)) (r : Result (List Id) BadSchedule)
-      → (r >>> λ xs. with_lines_at level ids initial xs (after_line p line) rest) ≡ ((r >>> λ xs. read (Third xs)) >>> λ x. goes_on p line x rest)
-  third_goes p line rest (Ok xs) = refl
-  third_goes p line rest (Err d) = refl
-
-  tail_goes_by : (p : Place) (line : List ℕ) (rest : List (List ℕ)) → rest ≢ [] → (third : Bool)
-      → (if third then (third_line_at ids p line >>> λ xs. with_lines_at level ids initial xs (after_line p line) rest) else with_lines_at level ids initial [] p (line ∷ rest))
-      ≡ (begun_by third p line >>> λ x. goes_on p line x rest)
-  tail_goes_by p line rest some true = third_goes p line rest (third_line_at ids p line)
-  tail_goes_by p line rest some false =
-      ap (λ r. r >>> λ lines. read (made [] lines)) (more_lines level ids p [] line rest some) ∙ lines_go p line rest (one_line_at level ids p line)
-
-  tail_goes : (p : Place) (line : List ℕ) (rest : List (List ℕ)) → rest ≢ [] → voting_only_at level ids initial p (line ∷ rest) ≡ (begun_at p line >>> λ x. goes_on p line x rest)
-  tail_goes p line rest some = more_tail level ids initial p line rest some ∙ tail_goes_by p line rest some (is_third level line)
-
-  begun_err : (third : Bool) (p : Place) (line : List ℕ) (bad : BadSchedule) → begun_by third p line ≡ Err bad → bad.line ≡ p.number
-  begun_err true p line bad e = in_line_err p _ bad (map_err (third_line_at ids p line) (λ xs. Third xs) bad e)
-  begun_err false p line bad e = in_line_err p _ bad (map_err (one_line_at level ids p line) (λ l. First l) bad e)
-
-  begun_stop : (p : Place) (line : List ℕ) (parts : List (List ℕ)) (bad : BadSchedule) (x : Begun) → parts ≢ [] → list_all (lacks 10) parts ≡ true → goes_on p line x parts ≡ Err bad → Stops (goes_on p line x) (p.number + 1) parts bad
-  begun_stop p line parts bad (Third xs) some k e =
-      let lines = lines_at level ids (after_line p line) [] in
-      stops_map lines (made xs) (p.number + 1) parts bad (lines_stop level ids (after_line p line) [] parts bad some k (map_err (lines parts) (made xs) bad e))
-  begun_stop p line parts bad (First l) some k e =
-      let lines = lines_at level ids (after_line p line) (l ∷ []) in
-      stops_map lines (made []) (p.number + 1) parts bad (lines_stop level ids (after_line p line) (l ∷ []) parts bad some k (map_err (lines parts) (made []) bad e))
+  profile_stop : (voting_only : List Id) (p : Place) (parts : List (List ℕ)) (bad : BadSchedule) → parts ≢ [] → list_all (lacks 10) parts ≡ true → profile_at level ids initial voting_only p parts ≡ Err bad
+      → Stops (profile_at level ids initial voting_only p) p.number parts bad
+  profile_stop voting_only p parts bad some k e =
+      optional_stop (is_named level (codes "profile")) profile_line_at false (with_lines_at level ids initial voting_only) p parts bad (made voting_only false []) refl
+      (λ line d h. in_line_err p _ d h) (λ line h. cut_err voting_only false p line bad h) (with_stop voting_only false p parts bad some k)
+      (λ line second rest more lack h. with_stop voting_only second (after_line p line) rest bad more lack h) some k e
 
   tail_stop : (p : Place) (parts : List (List ℕ)) (bad : BadSchedule) → parts ≢ [] → list_all (lacks 10) parts ≡ true → voting_only_at level ids initial p parts ≡ Err bad
       → Stops (voting_only_at level ids initial p) p.number parts bad
-  tail_stop p [] bad some k e = absurd (some refl)
-  tail_stop p (line ∷ []) bad some k e =
-      stops_cut (voting_only_at level ids initial p) p.number line bad [] (made [] []) (and_parts (lacks 10 line) _ k).0 e
-      (end_err {A = List Line} p line [] bad (map_err (lines_at level ids p [] (line ∷ [])) (made []) bad e)) refl refl
-  tail_stop p (line ∷ rest ∷ more) bad some k e =
-      let lack = and_parts (lacks 10 line) _ k in
-      let reads = voting_only_at level ids initial p in
-      let next = λ (t : List ℕ) (x : Begun) (ps : List (List ℕ)). goes_on p t x ps in
-      elim (begun_at p line) as (λ r. begun_at p line ≡ r → (r >>> λ x. goes_on p line x (rest ∷ more)) ≡ Err bad → Stops reads p.number (line ∷ rest ∷ more) bad) [
-        | Ok x ↦ λ is h.
-            stops_later reads (begun_at p) next (tail_goes p) p.number line (rest ∷ more) bad x (λ y. absurd cc) lack.0 is (begun_stop p line (rest ∷ more) bad x (λ y. absurd cc) lack.1 h)
-        | Err d ↦ λ is h.
-            let same = is ∙ ap (λ b. failed {A = Begun} b) (failed_is {A = Schedule} d bad h) in
-            stops_here reads (begun_at p) next (tail_goes p) p.number line (rest ∷ more) bad [] (made [] []) (λ y. absurd cc) lack.0 same (begun_err (is_third level line) p line bad same) refl refl
-      ] refl (sym (tail_goes p line (rest ∷ more) (λ y. absurd cc)) ∙ e)
+  tail_stop p parts bad some k e =
+      optional_stop (is_named level (codes "voting-only")) (voting_only_line_at ids) [] (profile_at level ids initial) p parts bad (made [] false []) refl
+      (λ line d h. header_err (codes "voting-only") (are_among ids) p line d h) (λ line h. cut_err [] false p line bad h) (profile_stop [] p parts bad some k)
+      (λ line voting_only rest more lack h. profile_stop voting_only (after_line p line) rest bad more lack h) some k e
 
 -- ---- the header
 
@@ -235,14 +282,14 @@ record Second (level : Level) (ids : List Id) (p : Place) : Type 0 where
   value : Schedule
   reads : initial_at level ids p (text ∷ [] ∷ []) ≡ Ok value
 
-second_by : (level : Level) (ids : List Id) (p : Place) (xs : List Id) → header_of_some_at (codes "initial") ids (codes "initial" ++ 32 ∷ list_text xs) ≡ Ok xs → IsSized p (codes "initial" ++ 32 ∷ list_text xs) → are_ids_after [] xs ≡ true → 0 < length xs → Second level ids p
-second_by level ids p xs e sized after some =
+second_by : (level : Level) (ids : List Id) (p : Place) (xs : List Id) → second_line_at ids p (codes "initial" ++ 32 ∷ list_text xs) ≡ Ok xs → are_ids_after [] xs ≡ true → Second level ids p
+second_by level ids p xs e after =
     let text = codes "initial" ++ 32 ∷ list_text xs in
     record {
       text = text;
-      lack = header_lacks (codes "initial") xs refl after some;
-      value = record { nodes = ids; initial = xs; voting_only = []; lines = [] };
-      reads = ap (λ r. r >>> λ initial. voting_only_at level ids initial (after_line p text) ([] ∷ [])) (sized_again p text (header_of_some_at (codes "initial") ids) xs sized e);
+      lack = header_lacks (codes "initial") xs refl after;
+      value = record { nodes = ids; initial = xs; voting_only = []; second = false; lines = [] };
+      reads = ap (λ r. r >>> λ initial. voting_only_at level ids initial (after_line p text) ([] ∷ [])) e;
     }
 
 -- the one with the first node
@@ -256,8 +303,9 @@ second_for level (x ∷ xs) line sized after some =
     let one : are_ids_after [] (x ∷ []) ≡ true = and_from _ _ may refl in
     let among : are_among (x ∷ xs) (x ∷ []) ≡ true = rw ((bytes_eq-Decides x x).1 refl) refl in
     let long = length-append (codes "initial ") x in
-    second_by level (x ∷ xs) (after_line first_place line) (x ∷ []) (some_again (codes "initial") (x ∷ xs) (x ∷ []) refl refl one (omega arith) among)
-    (record { bytes = omega (arith, sized.long, short, long); count = omega arith; long = omega (arith, short, long) }) one (omega arith)
+    let place = after_line first_place line in
+    let fits : IsSized place (codes "initial" ++ 32 ∷ list_text (x ∷ [])) = record { bytes = omega (arith, sized.long, short, long); count = omega arith; long = omega (arith, short, long) } in
+    second_by level (x ∷ xs) place (x ∷ []) (header_again (codes "initial") (λ ys. is_some_list ys && are_among (x ∷ xs) ys) place (x ∷ []) refl refl one among fits) one
 
 initial_stop : (level : Level) (ids : List Id) (p : Place) (parts : List (List ℕ)) (bad : BadSchedule) → Second level ids p → parts ≢ [] → list_all (lacks 10) parts ≡ true → initial_at level ids p parts ≡ Err bad → Stops (initial_at level ids p) p.number parts bad
 initial_stop level ids p [] bad second some k e = absurd (some refl)
@@ -265,15 +313,17 @@ initial_stop level ids p (line ∷ []) bad second some k e =
     stops_cut (initial_at level ids p) p.number line bad (second.text ∷ []) second.value (and_parts (lacks 10 line) _ k).0 e (initial_err {A = Schedule} p line bad e) (and_from _ _ second.lack refl) second.reads
 initial_stop level ids p (line ∷ rest ∷ more) bad second some k e =
     let lack = and_parts (lacks 10 line) _ k in
-    let next = λ (t : List ℕ) (initial : List Id) (ps : List (List ℕ)). voting_only_at level ids initial (after_line p t) ps in
-    let goes = more_initial level ids p in
-    elim (second_line_at ids p line) as (λ r. second_line_at ids p line ≡ r → (r >>> λ initial. next line initial (rest ∷ more)) ≡ Err bad → Stops (initial_at level ids p) p.number (line ∷ rest ∷ more) bad) [
+    let next = λ (initial : List Id) (ps : List (List ℕ)). voting_only_at level ids initial (after_line p line) ps in
+    let goes = more_initial level ids p line in
+    let reads = initial_at level ids p in
+    elim (second_line_at ids p line) as (λ r. second_line_at ids p line ≡ r → (r >>> λ initial. next initial (rest ∷ more)) ≡ Err bad → Stops reads p.number (line ∷ rest ∷ more) bad) [
       | Ok initial ↦ λ is h.
           let later = tail_stop level ids initial (after_line p line) (rest ∷ more) bad (λ x. absurd cc) lack.1 h in
-          stops_later (initial_at level ids p) (second_line_at ids p) next goes p.number line (rest ∷ more) bad initial (λ x. absurd cc) lack.0 is later
+          stops_later reads line (second_line_at ids p line) next goes p.number (rest ∷ more) bad initial (λ x. absurd cc) lack.0 is later
       | Err d ↦ λ is h.
           let same = is ∙ ap (λ b. failed {A = List Id} b) (failed_is {A = Schedule} d bad h) in
-          stops_here (initial_at level ids p) (second_line_at ids p) next goes p.number line (rest ∷ more) bad (second.text ∷ []) second.value (λ x. absurd cc) lack.0 same (in_line_err p _ bad same) (and_from _ _ second.lack refl) second.reads
+          let number = header_err (codes "initial") (λ xs. is_some_list xs && are_among ids xs) p line bad same in
+          stops_here reads line (second_line_at ids p line) next goes p.number (rest ∷ more) bad (second.text ∷ []) second.value (λ x. absurd cc) lack.0 same number (and_from _ _ second.lack refl) second.reads
     ] refl e
 
 more_nodes : (level : Level) (line : List ℕ) (rest : List (List ℕ)) → rest ≢ [] → nodes_at level first_place (line ∷ rest) ≡ (first_line_at first_place line >>> λ ids. initial_at level ids (after_line first_place line) rest)
@@ -285,16 +335,18 @@ nodes_stop level [] bad some k e = absurd (some refl)
 nodes_stop level (line ∷ []) bad some k e = stops_cut (nodes_at level first_place) 1 line bad [] no_schedule (and_parts (lacks 10 line) _ k).0 e (end_err first_place line no_schedule bad e) refl refl
 nodes_stop level (line ∷ rest ∷ more) bad some k e =
     let lack = and_parts (lacks 10 line) _ k in
-    let next = λ (t : List ℕ) (ids : List Id) (ps : List (List ℕ)). initial_at level ids (after_line first_place t) ps in
-    elim (first_line_at first_place line) as (λ r. first_line_at first_place line ≡ r → (r >>> λ ids. next line ids (rest ∷ more)) ≡ Err bad → Stops (nodes_at level first_place) 1 (line ∷ rest ∷ more) bad) [
+    let next = λ (ids : List Id) (ps : List (List ℕ)). initial_at level ids (after_line first_place line) ps in
+    let goes = more_nodes level line in
+    let reads = nodes_at level first_place in
+    elim (first_line_at first_place line) as (λ r. first_line_at first_place line ≡ r → (r >>> λ ids. next ids (rest ∷ more)) ≡ Err bad → Stops reads 1 (line ∷ rest ∷ more) bad) [
       | Ok ids ↦ λ is h.
-          let sized = sized_takes first_place line (header_at (codes "nodes")) ids is in
-          let header = header_takes (codes "nodes") line ids sized.1 in
-          let second = second_for level ids line sized.0 header.ids header.some in
-          stops_later (nodes_at level first_place) (first_line_at first_place) next (more_nodes level) 1 line (rest ∷ more) bad ids (λ x. absurd cc) lack.0 is (initial_stop level ids (after_line first_place line) (rest ∷ more) bad second (λ x. absurd cc) lack.1 h)
+          let header = header_takes (codes "nodes") is_some_list first_place line ids is in
+          let second = second_for level ids line header.sized header.header.ids (some_list ids header.passes) in
+          stops_later reads line (first_line_at first_place line) next goes 1 (rest ∷ more) bad ids (λ x. absurd cc) lack.0 is (initial_stop level ids (after_line first_place line) (rest ∷ more) bad second (λ x. absurd cc) lack.1 h)
       | Err d ↦ λ is h.
           let same = is ∙ ap (λ b. failed {A = List Id} b) (failed_is {A = Schedule} d bad h) in
-          stops_here (nodes_at level first_place) (first_line_at first_place) next (more_nodes level) 1 line (rest ∷ more) bad [] no_schedule (λ x. absurd cc) lack.0 same (in_line_err first_place _ bad same) refl refl
+          let number = header_err (codes "nodes") is_some_list first_place line bad same in
+          stops_here reads line (first_line_at first_place line) next goes 1 (rest ∷ more) bad [] no_schedule (λ x. absurd cc) lack.0 same number refl refl
     ] refl e
 
 -- ---- the whole

@@ -62,7 +62,7 @@ head_is a b x y e = cc
 tail_is : (a b : List ℕ) (x y : List (List ℕ)) → a ∷ x ≡ b ∷ y → x ≡ y
 tail_is a b x y e = cc
 
-heads : (a b s t : List ℕ) → lacks 10 a ≡ true → lacks 10 b ≡ true → a ++ 10 ∷ s ≡ b ++ 10 ∷ t → (a ≡ b) × (s ≡ t)
+pub heads : (a b s t : List ℕ) → lacks 10 a ≡ true → lacks 10 b ≡ true → a ++ 10 ∷ s ≡ b ++ 10 ∷ t → (a ≡ b) × (s ≡ t)
 heads a b s t h k e =
     let parts : a ∷ parts_of 10 s ≡ b ∷ parts_of 10 t = sym (split_first 10 a s h) ∙ ap (parts_of 10) e ∙ split_first 10 b t k in
     let tails = tail_is a b (parts_of 10 s) (parts_of 10 t) parts in

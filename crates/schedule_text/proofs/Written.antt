@@ -1,4 +1,4 @@
--- What stands in a text after the third header line of a schedule.
+-- What stands in a text after the header line of the voting-only nodes.
 use Rattle.std.proofs.Common.{◌≡◌, false, Result, OnOk, subst, List, [], ◌∷◌, ◌++◌, length, sym, ◌∙◌, ℕ, append_assoc}
 use Rattle.std.proofs.lemmas.List.{append-nil}
 use Rattle.std.specs.Prelude.{codes, ◌==◌}
@@ -7,7 +7,7 @@ use Rattle.voting_config.specs.Lists.{list_text}
 use Rattle.text.proofs.Written.{three_written}
 use Rattle.schedule_text.specs.Spelled.{voting_only_lines, with_feeds}
 
--- the third header line, with its line feed
+-- that header line, with its line feed
 pub voting_only_written : {A E : Type 0} (r : Result A E) (ids : List Id) (old first second new : List ℕ) → (length ids == 0) ≡ false → first ≡ old ++ codes "voting-only " → second ≡ first ++ list_text ids → OnOk r (new ≡ second ++ codes "\n")
     → OnOk r (new ≡ old ++ with_feeds (voting_only_lines ids))
 voting_only_written r [] old first second new some e f g = absurd (cc)
