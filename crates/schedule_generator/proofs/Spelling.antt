@@ -53,7 +53,7 @@ module _ (messages : List Line → ℕ) (few : (lines : List Line) → messages 
       let lines : List Line = lines_by messages number steps in
       let good : AllByRecursion Good lines = lines_good steps within in
       let many : length lines ≡ steps = so_many steps in
-      let is : IsSchedule Core (generated_by messages number steps) = record { nodes = refl; some_node = lit< tt; initial = refl; some_initial = lit< tt; listed = refl; voting_only = refl; lines = all_fit lines good } in
+      let is : IsSchedule Core (generated_by messages number steps) = record { nodes = refl; some_node = lit< tt; initial = refl; some_initial = lit< tt; listed = refl; voting_only = refl; second = refl; lines = all_fit lines good } in
       let small : IsWithin (text_lines (generated_by messages number steps)) = record {
         bytes = omega (arith, few_bytes lines good);
         count = omega (arith, as_many lines);

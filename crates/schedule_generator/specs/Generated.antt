@@ -1,5 +1,5 @@
 -- Part of the statement: the schedules of a number.
-use Rattle.std.specs.Prelude.{ℕ, zero, suc, ◌-◌, List, [], ◌∷◌, ◌++◌, codes, nat_lt, if◌then◌else◌}
+use Rattle.std.specs.Prelude.{ℕ, false, zero, suc, ◌-◌, List, [], ◌∷◌, ◌++◌, codes, nat_lt, if◌then◌else◌}
 use Rattle.voting_config.specs.Lists.{items_of}
 use Rattle.schedule_text.specs.declared.schedule.Line.{Line}
 use Rattle.schedule_text.specs.declared.schedule.Line.TheVariants.{Boot}
@@ -15,7 +15,7 @@ line_at number step sent =
 
 -- the schedule of these lines
 abbrev pub generated_from : List Line → Schedule
-generated_from lines = record { nodes = items_of (codes "a,b,c,d"); initial = items_of (codes "a,b,c"); voting_only = []; lines = lines }
+generated_from lines = record { nodes = items_of (codes "a,b,c,d"); initial = items_of (codes "a,b,c"); voting_only = []; second = false; lines = lines }
 
 -- So many lines, where this says how many messages some lines send: each line is that of its step, after the messages of all lines before
 -- it.

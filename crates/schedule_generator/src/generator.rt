@@ -72,6 +72,7 @@ pub fn empty_schedule(alloc: Global) -> Schedule
         nodes: nodes(b"a,b,c,d"),
         initial: nodes(b"a,b,c"),
         voting_only: NodeSet::new(),
+        second: false,
         lines: Lines::of(Vec::new(alloc)),
     }
 }
