@@ -17,13 +17,13 @@ DEFAULTS = {
     # Or connections of the leader are cut so often within 8 s: one of them, or all.
     'cuts': 0, 'all': 0,
     'frame': 0.1, 'cost': 100, 'sync': 0.5,
-    # Who stands before a node that lost its leader: `voters`, those of lesser ids, as by the rules; `free`, of these the ones that are known to be
-    # free whenever the deadline is looked at; `none`, nobody, and it does not yield either.
-    'before': 'voters',
+    # Who stands before a node that lost its leader: `free`, voters of lesser ids that are free whenever the deadline is looked at, as by the rules;
+    # `voters`, all of lesser ids, by places that are given as the leader is lost; `none`, nobody, and it does not yield either.
+    'before': 'free',
     # How long discovery is held back then.
-    'grace': 50,
+    'grace': 100,
     # Whether a leader without a quorum asks for votes at once.
-    'again': 0,
+    'again': 1,
 }
 PROCESSORS, ROUND, DISCOVERY, CHECK, FAILURES, ATTEMPTS = 4, 500, 1000, 1000, 3, 99
 # A node sees the end of a connection so much later at most, a dial that was refused is repeated after so long, and ticks are quick for so long.
@@ -166,7 +166,7 @@ class Node:
             self.send_all(free - {self.me}, 'pre_vote_ask')
 
     def free_before(self, free):
-        """The other rule: of those that come before the node, those count that are free now."""
+        """How many of those that come before the node are free now."""
         return sum(1 for id in self.accepted.config & free if id < self.me) if self.place and self.plan.before == 'free' else 0
 
     def drop(self, peer):

@@ -16,14 +16,14 @@ while read -r words; do
     python3 "$top/bench/elections.py" $words
 done <<'ROWS'
 nodes=3 runs=200 seconds=4
+nodes=3 runs=200 seconds=4 grace=50
 nodes=3 runs=200 seconds=4 before=none
 nodes=15 runs=40 seconds=4
-nodes=15 runs=40 seconds=4 grace=100
 nodes=15 runs=10 seconds=4 frame=40
 nodes=15 runs=10 seconds=4 frame=40 before=none
 nodes=31 runs=5 seconds=4
 nodes=31 runs=5 seconds=4 dead=5
-nodes=31 runs=5 seconds=4 dead=5 before=free grace=100
+nodes=31 runs=5 seconds=4 dead=5 before=voters
 nodes=5 runs=10 seconds=12 cuts=8 all=1
-nodes=5 runs=10 seconds=12 cuts=8 all=1 again=1
+nodes=5 runs=10 seconds=12 cuts=8 all=1 again=0
 ROWS
