@@ -1,5 +1,5 @@
 -- Lines that are written out: the definition computes.
-use Rattle.std.proofs.Common.{◌≡◌, refl, [], ◌∷◌, Some, None, codes, false}
+use Rattle.std.proofs.Common.{◌≡◌, refl, [], ◌∷◌, Some, None, codes, true, false}
 use Rattle.command_line.specs.Commands.{command_of}
 use Rattle.command_line.specs.Lists.{initial_of, peers_of}
 use Rattle.schedule_text.specs.declared.level.Level.TheVariants.{Core, Node}
@@ -33,9 +33,25 @@ node : command_of (codes "node" ∷ codes "--no-shrink" ∷ codes "--id" ∷ cod
       initial = codes "a" ∷ codes "c" ∷ [];
       voting_only = codes "b" ∷ [];
       shrink = false;
+      second = true;
       turns = 7;
     }))
 node = refl
+
+first_profile : command_of (codes "node" ∷ codes "--profile" ∷ codes "1" ∷ codes "--id=a" ∷ codes "--dir=d" ∷ codes "--listen=h" ∷ codes "--peers=_" ∷ codes "--initial=_" ∷ codes "--turns=7" ∷ [])
+    ≡ Some (Node (record {
+      link = record { me = codes "a"; listen = codes "h"; peers = [] };
+      dir = codes "d";
+      initial = [];
+      voting_only = [];
+      shrink = true;
+      second = false;
+      turns = 7;
+    }))
+first_profile = refl
+
+no_profile : command_of (codes "node" ∷ codes "--profile=3" ∷ codes "--id=a" ∷ codes "--dir=d" ∷ codes "--listen=h" ∷ codes "--peers=_" ∷ codes "--initial=_" ∷ codes "--turns=7" ∷ []) ≡ None
+no_profile = refl
 
 alone : command_of (codes "unsafe-bootstrap" ∷ codes "--dir" ∷ codes "d" ∷ codes "--id=a" ∷ []) ≡ Some (UnsafeBootstrap (codes "a") (codes "d"))
 alone = refl

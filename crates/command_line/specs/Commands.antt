@@ -1,5 +1,5 @@
 -- Part of the statement: which command the words are.
-use Rattle.std.specs.Prelude.{◌≡◌, ℕ, ◌==◌, ◌&&◌, ◌||◌, Bool, not, if◌then◌else◌, List, [], length, slice_index, codes, nat_lt}
+use Rattle.std.specs.Prelude.{◌≡◌, ℕ, ◌==◌, ◌&&◌, ◌||◌, Bool, true, false, not, if◌then◌else◌, List, [], length, slice_index, codes, nat_lt}
 use Rattle.std.specs.Prelude.{Option, Some, None, is_some, option_and_then, Result, Ok, Err}
 use Rattle.std.specs.Str.{bytes_eq}
 use Rattle.clap.specs.Words.{Row, fault_of, first_of, subcommand_of, subcommand_rows_of}
@@ -41,10 +41,21 @@ link_of look =
 abbrev pub voting_only_of : Look → Option (List Id)
 voting_only_of look = if is_some (look (codes "voting-only")) then text_at (codes "voting-only") look >>= initial_of else Some []
 
+-- whether the profile of the policy is the second: it is where the option is not given
+abbrev pub profile_of : Text → Option Bool
+profile_of t =
+    if bytes_eq t (codes "1") then Some false
+    else (if bytes_eq t (codes "2") then Some true
+    else None)
+
+abbrev pub second_of : Look → Option Bool
+second_of look = if is_some (look (codes "profile")) then text_at (codes "profile") look >>= profile_of else Some true
+
 abbrev pub node_of : Look → Option ProgramCommand
 node_of look =
     text_at (codes "initial") look >>= initial_of >>= λ initial.
     voting_only_of look >>= λ voting_only.
+    second_of look >>= λ second.
     text_at (codes "turns") look >>= number_of >>= λ turns.
     link_of look >>= λ link.
     text_at (codes "dir") look >>= λ dir.
@@ -54,6 +65,7 @@ node_of look =
       initial = initial;
       voting_only = voting_only;
       shrink = not (is_set (codes "no-shrink") look);
+      second = second;
       turns = turns;
     }))
 

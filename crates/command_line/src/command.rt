@@ -62,6 +62,8 @@ pub struct NodeWords {
     pub voting_only: NodeSet,
     /// Whether configurations may become smaller.
     pub shrink: bool,
+    /// Whether the node goes by the second profile of the policy, and not by the first.
+    pub second: bool,
     /// After how many inputs the node ends.
     pub turns: u64,
 }

@@ -3,7 +3,7 @@ ghost use Rattle.std.specs.Prelude.{◌≡◌, ◌↔◌, IsTrue, codes, map, st
 ghost use Rattle.std.specs.List.{list_all};
 ghost use Rattle.clap.specs.Words.{first_value, found_of, kind_of, subcommand_rows_of};
 ghost use Rattle.command_line.specs.Answers.{Gives};
-ghost use Rattle.command_line.specs.Commands.{level_of, replay_of, inspect_of, link_of, voting_only_of, node_of, steps_of, generate_of, port_of, trial_of, rescue_of, unsafe_bootstrap_of, detach_cluster_of, command_by, command_of, entered_command, Parses, is_fair as fair};
+ghost use Rattle.command_line.specs.Commands.{level_of, replay_of, inspect_of, link_of, voting_only_of, profile_of, second_of, node_of, steps_of, generate_of, port_of, trial_of, rescue_of, unsafe_bootstrap_of, detach_cluster_of, command_by, command_of, entered_command, Parses, is_fair as fair};
 
 use crate::lists::{initial, peers, up};
 use crate::shape::program;
@@ -67,11 +67,38 @@ fn read_voting_only(alloc: Global, matches: &ArgMatches<'_>) -> Result<NodeSet, 
     initial(alloc, needed(matches, "voting-only")?)
 }
 
+// Whether the profile of this number is the second.
+fn profile(text: &str) -> Option<bool>
+    ensures { result ≡ profile_of text.now }
+{
+    if text == "1" {
+        Some(false)
+    } else if text == "2" {
+        Some(true)
+    } else {
+        None
+    }
+}
+
+// Whether the profile of the policy is the second: it is where the option is not given.
+fn read_second(matches: &ArgMatches<'_>) -> Result<bool, WordsError>
+    ensures { Gives result (second_of (first_value (found_of matches.now))) }
+{
+    if matches.get_str("profile").is_none() {
+        return Ok(true);
+    }
+    match profile(needed(matches, "profile")?) {
+        Some(second) => Ok(second),
+        None => Err(WordsError::Usage),
+    }
+}
+
 fn read_node(alloc: Global, matches: &ArgMatches<'_>) -> Result<ProgramCommand, WordsError>
     ensures { Gives result (node_of (first_value (found_of matches.now))) }
 {
     let initial = initial(alloc, needed(matches, "initial")?)?;
     let voting_only = read_voting_only(alloc, matches)?;
+    let second = read_second(matches)?;
     let turns = number_at(matches, "turns")?;
     let link = read_link(alloc, matches)?;
     let dir = text(alloc, matches, "dir")?;
@@ -81,6 +108,7 @@ fn read_node(alloc: Global, matches: &ArgMatches<'_>) -> Result<ProgramCommand, 
         initial,
         voting_only,
         shrink: !is_set(matches, "no-shrink"),
+        second,
         turns,
     }))
 }

@@ -49,6 +49,7 @@ fn node<'a>(alloc: Global) -> Result<Command<'a>, AllocError>
         "initial",
         "voting-only",
         "turns",
+        "profile",
     ];
     let command = leaf(alloc, "node", &options)?;
     with_flag(alloc, command, "no-shrink")
