@@ -1,5 +1,5 @@
 -- Part of the statement: whole nodes, which do what the policy says: their one history, the life of each and the frames that they sent.
-use Rattle.std.specs.Prelude.{◌-◌, ℕ, true, cond, Option, None, Some, List, [], ◌∷◌, ◌++◌, slice_get, if◌then◌else◌}
+use Rattle.std.specs.Prelude.{◌-◌, ℕ, Bool, true, cond, Option, None, Some, List, [], ◌∷◌, ◌++◌, slice_get, if◌then◌else◌}
 use Rattle.voting_config.specs.Ids.{Id, same, without_id}
 use Rattle.cluster_state.specs.declared.state.Kept.{Kept}
 use Rattle.zen_disk.specs.declared.orders.Order.TheVariants.{Stop, Fault}
@@ -26,9 +26,9 @@ pub record Cluster : Type 0 where
   pub frames : List Frame
 
 -- a node knows all others, in ascending order, the initial names, and who is voting-only
-abbrev pub settings_of : (nodes initial voting_only : List Id) → Id → Settings
-settings_of nodes initial voting_only n =
-    record { me = n; peers = without_id n nodes; initial = initial; voting_only = voting_only; shrink = true }
+abbrev pub settings_of : (nodes initial voting_only : List Id) (second : Bool) → Id → Settings
+settings_of nodes initial voting_only second n =
+    record { me = n; peers = without_id n nodes; initial = initial; voting_only = voting_only; policy = record { shrink = true; second = second } }
 
 abbrev pub with_life : (Id → Life) → Id → Life → Id → Life
 with_life lives n life = λ m. cond (same n m) life (lives m)
@@ -92,18 +92,18 @@ frame_at c number = slice_get c.frames (number - 1)
 
 -- ---- a schedule
 
-module _ (nodes initial voting_only : List Id) where
+module _ (nodes initial voting_only : List Id) (second : Bool) where
   abbrev pub fresh_cluster : Cluster
-  fresh_cluster = record { world = fresh_world; lives = λ n. first_life (settings_of nodes initial voting_only n); frames = [] }
+  fresh_cluster = record { world = fresh_world; lives = λ n. first_life (settings_of nodes initial voting_only second n); frames = [] }
 
   -- a line of level core, which no schedule of level node has, leaves all as it is
   abbrev pub after : Cluster → Line → Cluster
-  after c (line.Tick n now word) = after_event_if_up (settings_of nodes initial voting_only n) c (Tick now word)
-  after c (line.Client n bytes) = after_event_if_up (settings_of nodes initial voting_only n) c (LineCame 0 bytes)
-  after c (line.Disconnect n peer) = after_event_if_up (settings_of nodes initial voting_only n) c (PeerGone peer)
-  after c (line.Deliver n number) = after_frame (settings_of nodes initial voting_only n) c (frame_at c number)
+  after c (line.Tick n now word) = after_event_if_up (settings_of nodes initial voting_only second n) c (Tick now word)
+  after c (line.Client n bytes) = after_event_if_up (settings_of nodes initial voting_only second n) c (LineCame 0 bytes)
+  after c (line.Disconnect n peer) = after_event_if_up (settings_of nodes initial voting_only second n) c (PeerGone peer)
+  after c (line.Deliver n number) = after_frame (settings_of nodes initial voting_only second n) c (frame_at c number)
   after c (line.Crash n way) = record c { world = crashed c.world n way }
-  after c (line.Restart n) = after_restart (settings_of nodes initial voting_only n) c
+  after c (line.Restart n) = after_restart (settings_of nodes initial voting_only second n) c
   after c (line.Fuse n count way) = record c { world = ordered c.world n (Stop count way) }
   after c (line.Fail n count) = record c { world = ordered c.world n (Fault count) }
   after c (line.Boot n) = c
@@ -116,7 +116,7 @@ module _ (nodes initial voting_only : List Id) where
 
 -- all nodes after the schedule
 abbrev pub replayed : Schedule → Cluster
-replayed s = replayed_from s.nodes s.initial s.voting_only (fresh_cluster s.nodes s.initial s.voting_only) s.lines
+replayed s = replayed_from s.nodes s.initial s.voting_only s.second (fresh_cluster s.nodes s.initial s.voting_only s.second) s.lines
 
 abbrev pub replayed_history : Schedule → History
 replayed_history s = (replayed s).world.history
