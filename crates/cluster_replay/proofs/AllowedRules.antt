@@ -190,6 +190,9 @@ module _ (s : Settings) where
 
   -- elections
   module _ (mine : is_id s.me ≡ true) where
+    calm-asks_votes : (v : View) → NamedView v → IsCalm s (next.asks_votes s v)
+    calm-asks_votes v n = Noting HandedOver _ refl (calm-asks_successor v (Some s.me) (targets-named v.publication n.publication) mine)
+
     all-peers : (v : View) → NamedView v → AllIds (with_id s.me (known_set v.finder))
     all-peers v n = each-with_id is_id s.me (known_set v.finder) mine (all-known v.finder n.peers)
 
@@ -205,7 +208,7 @@ module _ (s : Settings) where
 
     calm-waits_until : (v : View) (word : ℕ) (o : Option ℕ) → NamedView v → IsCalm s (elections.waits_until s v word o)
     calm-waits_until v word None n = Noting (ElectionSet word) [] refl Silent
-    calm-waits_until v word (Some deadline) n = calm-if s (is_due deadline v.moment) _ [] (calm-begins_round v word n) Silent
+    calm-waits_until v word (Some deadline) n = calm-if s _ _ [] (calm-begins_round v word n) Silent
 
     calm-waits_for_election : (v : View) (word : ℕ) → NamedView v → IsCalm s (elections.waits_for_election s v word)
     calm-waits_for_election v word n = calm-if s _ _ _ (calm-waits_until v word v.deadline n) (Noting ElectionOff [] refl Silent)
@@ -272,8 +275,9 @@ module _ (s : Settings) where
 
   calm-follows_checker : (v : View) (p : Id) → is_id p ≡ true → IsCalm s (checks.follows_checker s v p)
   calm-follows_checker v p h =
-      calm-if s (doing.is_leader v.mode) _ _ (calm-answers_leader v p false h)
-      (calm-append s (doing.becomes_follower s v p) _ (calm-becomes_follower v p h) (calm-answers_leader (moved_all s v (doing.becomes_follower s v p)) p true h))
+      calm-if s (doing.is_second s) _ _ (calm-answers_leader v p (doing.follows_node v.mode p) h)
+      (calm-if s (doing.is_leader v.mode) _ _ (calm-answers_leader v p false h)
+      (calm-append s (doing.becomes_follower s v p) _ (calm-becomes_follower v p h) (calm-answers_leader (moved_all s v (doing.becomes_follower s v p)) p true h)))
 
   -- requests
   calm-times_out : (v : View) → IsCalm s (requests.times_out_exclusions s v)
@@ -333,9 +337,12 @@ module _ (s : Settings) (mine : is_id s.me ≡ true) (initial : IsIdSet s.initia
       (ByNote ms v StateMade _ tt
       (allowed-when ms (moved s v (Notes StateMade)) (is_nothing_new (as_master s v.node) v.tasks) [] _ (λ e. Ended _ _) (allowed-publishes ms v f)))
 
+  allowed-leads_on : (ms : List Message) (v : View) → FitView v → IsAllowed s ms v (next.leads_on s v)
+  allowed-leads_on ms v f = allowed-when ms v (next.wants_votes s v) _ _ (λ e. allowed-calm s ms v _ (calm-asks_votes s mine v f.names)) (allowed-makes_state ms v f)
+
   allowed-goes_on : (ms : List Message) (v : View) → FitView v → IsAllowed s ms v (next.goes_on s v)
   allowed-goes_on ms v f =
-      allowed-when ms v _ _ [] (λ e. allowed-when ms v (doing.may_win s v) _ _ (λ d. allowed-makes_state ms v f) (allowed-calm s ms v _ (calm-hands_over s v f.names))) (Ended ms v)
+      allowed-when ms v _ _ [] (λ e. allowed-when ms v (doing.may_win s v) _ _ (λ d. allowed-leads_on ms v f) (allowed-calm s ms v _ (calm-hands_over s v f.names))) (Ended ms v)
 
   -- elections
   allowed-takes_config : (ms : List Message) (v : View) (o : Option (List Id)) → ((config : List Id) → o ≡ Some config → (has s.me s.initial ≡ true) × (s.initial ≡ config)) → IsAllowed s ms v (elections.takes_config s v o)
@@ -468,7 +475,7 @@ module _ (s : Settings) (mine : is_id s.me ≡ true) (initial : IsIdSet s.initia
 
   allowed-ticks_leader : (ms : List Message) (v : View) → FitView v → IsAllowed s ms v (rules.ticks_leader s v)
   allowed-ticks_leader ms v f =
-      allowed-when ms v (rules.has_timed_out v.publication v.moment) _ _
+      allowed-when ms v (rules.gives_up s v) _ _
       (λ e. allowed-calm s ms v _ (calm-becomes_candidate s v))
       (allowed-then ms v _ (next.goes_on s) f
       (allowed-then ms v _ (checks.checks_followers s) f (allowed-calm s ms v _ (calm-times_out s v)) (λ u ns g c. allowed-calm s ns u _ (calm-checks_followers s u g.names)))
@@ -504,13 +511,18 @@ module _ (s : Settings) (mine : is_id s.me ≡ true) (initial : IsIdSet s.initia
   allowed-message ms v p (message.LeaderAnswer good) f t = allowed-when ms v (doing.follows_node v.mode p) _ [] (λ e. ByNote ms v _ _ tt (Ended ms _)) (Ended ms v)
 
   -- connections that have ended
+  allowed-leads_anew : (ms : List Message) (v : View) → FitView v → IsAllowed s ms v (disconnects.leads_anew s v)
+  allowed-leads_anew ms v f =
+      allowed-then ms v _ (λ u. elections.stands_for_election s u (u.node.term + 1)) f (allowed-calm s ms v _ (calm-becomes_candidate s v))
+      (λ u ns g c. allowed-calm s ns u _ (calm-stands_for_election s mine u (u.node.term + 1) g.names))
+
   allowed-loses : (ms : List Message) (v : View) (p : Id) (m : Mode) → FitView v → IsAllowed s ms v (disconnects.loses s v p m)
   allowed-loses ms v p Candidate f = allowed-calm s ms v _ (calm-if s _ _ [] (Noting (PeerLost p) [] refl Silent) Silent)
   allowed-loses ms v p Leader f =
       allowed-when ms v (has p (follower_ids v.followers.watched)) _ []
       (λ e. allowed-then ms v (disconnects.drops_follower s p) (disconnects.goes_on_with_rest s) f
       (allowed-calm s ms v _ (Dropping p Disconnect _ (id-among p (follower_ids v.followers.watched) f.names.watched e) (Noting (PeerLost p) [] refl Silent)))
-      (λ u ns g c. allowed-when ns u (disconnects.keeps_quorum s u) _ _ (λ d. allowed-goes_on ns u g) (allowed-calm s ns u _ (calm-becomes_candidate s u))))
+      (λ u ns g c. allowed-when ns u (disconnects.keeps_quorum s u) _ _ (λ d. allowed-goes_on ns u g) (allowed-leads_anew ns u g)))
       (Ended ms v)
   allowed-loses ms v p (Follower leader) f =
       allowed-calm s ms v _ (calm-if s (same leader p) _ [] (calm-append s _ _ (calm-becomes_candidate s v) (Noting _ [] refl Silent)) Silent)

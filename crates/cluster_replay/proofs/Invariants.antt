@@ -44,9 +44,9 @@ pub record SoundNode (s : Settings) (life : Life) (x : NodeWorld) : Type 0 where
   pub begun : starts_next life ≡ false
   pub ready : needs_opening x ≡ false → Ready s life
 
-pub record SoundCluster (nodes initial voting_only : List Id) (c : Cluster) : Type 0 where
+pub record SoundCluster (nodes initial voting_only : List Id) (second : Bool) (c : Cluster) : Type 0 where
   pub world : SoundWorld initial c.world
-  pub each : (n : Id) → has n nodes ≡ true → SoundNode (settings_of nodes initial voting_only n) (c.lives n) (node_world c.world n)
+  pub each : (n : Id) → has n nodes ≡ true → SoundNode (settings_of nodes initial voting_only second n) (c.lives n) (node_world c.world n)
   pub frames : AllByRecursion (IsGoodFrame (sent c.world.history)) c.frames
 
 -- ---- lists
@@ -70,26 +70,26 @@ others_ids n nodes h = list_all-filter is_id _ nodes h
 -- ---- one node moves
 
 -- the life of one node is another, and its part of the world; the other nodes stay
-pub each-moved : (nodes initial voting_only : List Id) (n : Id) (lives : Id → Life) (w v : World) (life : Life) → ((m : Id) → same n m ≡ false → node_world v m ≡ node_world w m)
-    → SoundNode (settings_of nodes initial voting_only n) life (node_world v n)
-    → ((m : Id) → has m nodes ≡ true → SoundNode (settings_of nodes initial voting_only m) (lives m) (node_world w m))
-    → (m : Id) → has m nodes ≡ true → SoundNode (settings_of nodes initial voting_only m) (with_life lives n life m) (node_world v m)
-each-moved nodes initial voting_only n lives w v life others here there m listed = from (same n m) refl
+pub each-moved : (nodes initial voting_only : List Id) (second : Bool) (n : Id) (lives : Id → Life) (w v : World) (life : Life) → ((m : Id) → same n m ≡ false → node_world v m ≡ node_world w m)
+    → SoundNode (settings_of nodes initial voting_only second n) life (node_world v n)
+    → ((m : Id) → has m nodes ≡ true → SoundNode (settings_of nodes initial voting_only second m) (lives m) (node_world w m))
+    → (m : Id) → has m nodes ≡ true → SoundNode (settings_of nodes initial voting_only second m) (with_life lives n life m) (node_world v m)
+each-moved nodes initial voting_only second n lives w v life others here there m listed = from (same n m) refl
   where
-    from : (b : Bool) → same n m ≡ b → SoundNode (settings_of nodes initial voting_only m) (cond b life (lives m)) (node_world v m)
-    from true e = subst (λ (i : Id). SoundNode (settings_of nodes initial voting_only i) life (node_world v i)) (same_is n m e) here
-    from false e = subst (λ (x : NodeWorld). SoundNode (settings_of nodes initial voting_only m) (lives m) x) (sym (others m e)) (there m listed)
+    from : (b : Bool) → same n m ≡ b → SoundNode (settings_of nodes initial voting_only second m) (cond b life (lives m)) (node_world v m)
+    from true e = subst (λ (i : Id). SoundNode (settings_of nodes initial voting_only second i) life (node_world v i)) (same_is n m e) here
+    from false e = subst (λ (x : NodeWorld). SoundNode (settings_of nodes initial voting_only second m) (lives m) x) (sym (others m e)) (there m listed)
 
 -- the same where the lives stay
-pub each-stays : (nodes initial voting_only : List Id) (n : Id) (lives : Id → Life) (w v : World) → ((m : Id) → same n m ≡ false → node_world v m ≡ node_world w m)
-    → SoundNode (settings_of nodes initial voting_only n) (lives n) (node_world v n)
-    → ((m : Id) → has m nodes ≡ true → SoundNode (settings_of nodes initial voting_only m) (lives m) (node_world w m))
-    → (m : Id) → has m nodes ≡ true → SoundNode (settings_of nodes initial voting_only m) (lives m) (node_world v m)
-each-stays nodes initial voting_only n lives w v others here there m listed = from (same n m) refl
+pub each-stays : (nodes initial voting_only : List Id) (second : Bool) (n : Id) (lives : Id → Life) (w v : World) → ((m : Id) → same n m ≡ false → node_world v m ≡ node_world w m)
+    → SoundNode (settings_of nodes initial voting_only second n) (lives n) (node_world v n)
+    → ((m : Id) → has m nodes ≡ true → SoundNode (settings_of nodes initial voting_only second m) (lives m) (node_world w m))
+    → (m : Id) → has m nodes ≡ true → SoundNode (settings_of nodes initial voting_only second m) (lives m) (node_world v m)
+each-stays nodes initial voting_only second n lives w v others here there m listed = from (same n m) refl
   where
-    from : (b : Bool) → same n m ≡ b → SoundNode (settings_of nodes initial voting_only m) (lives m) (node_world v m)
-    from true e = subst (λ (i : Id). SoundNode (settings_of nodes initial voting_only i) (lives i) (node_world v i)) (same_is n m e) here
-    from false e = subst (λ (x : NodeWorld). SoundNode (settings_of nodes initial voting_only m) (lives m) x) (sym (others m e)) (there m listed)
+    from : (b : Bool) → same n m ≡ b → SoundNode (settings_of nodes initial voting_only second m) (lives m) (node_world v m)
+    from true e = subst (λ (i : Id). SoundNode (settings_of nodes initial voting_only second i) (lives i) (node_world v i)) (same_is n m e) here
+    from false e = subst (λ (x : NodeWorld). SoundNode (settings_of nodes initial voting_only second m) (lives m) x) (sym (others m e)) (there m listed)
 
 -- ---- an event
 
@@ -173,11 +173,11 @@ module _ (s : Settings) (mine : is_id s.me ≡ true) (peers : AllIds s.peers) (i
       from (inr cut) = struck-names items course.items cut.1.struck all
 
 -- all nodes after an event of one of them
-pub event_sound : (nodes initial voting_only : List Id) (n : Id) (c : Cluster) (e : Event) → is_id n ≡ true → AllIds nodes → IsIdSet initial → has n nodes ≡ true → SoundWorld initial c.world → AllByRecursion (IsGoodFrame (sent c.world.history)) c.frames
-    → ((m : Id) → has m nodes ≡ true → same n m ≡ false → SoundNode (settings_of nodes initial voting_only m) (c.lives m) (node_world c.world m))
-    → Waits (settings_of nodes initial voting_only n) (c.lives n) (node_world c.world n) e → MayCome (sent c.world.history) e → SoundCluster nodes initial voting_only (after_event (settings_of nodes initial voting_only n) c e)
-event_sound nodes initial voting_only n c e mine ids set listed sound frames others waits comes =
-    let s : Settings = settings_of nodes initial voting_only n in
+pub event_sound : (nodes initial voting_only : List Id) (second : Bool) (n : Id) (c : Cluster) (e : Event) → is_id n ≡ true → AllIds nodes → IsIdSet initial → has n nodes ≡ true → SoundWorld initial c.world → AllByRecursion (IsGoodFrame (sent c.world.history)) c.frames
+    → ((m : Id) → has m nodes ≡ true → same n m ≡ false → SoundNode (settings_of nodes initial voting_only second m) (c.lives m) (node_world c.world m))
+    → Waits (settings_of nodes initial voting_only second n) (c.lives n) (node_world c.world n) e → MayCome (sent c.world.history) e → SoundCluster nodes initial voting_only second (after_event (settings_of nodes initial voting_only second n) c e)
+event_sound nodes initial voting_only second n c e mine ids set listed sound frames others waits comes =
+    let s : Settings = settings_of nodes initial voting_only second n in
     let p = event_plays s mine (others_ids n nodes ids) set c.world (c.lives n) e sound waits comes in
     record {
       world = p.sound;
@@ -185,12 +185,12 @@ event_sound nodes initial voting_only n c e mine ids set listed sound frames oth
       frames = each_append (IsGoodFrame (sent (event_course s c e).world.history)) c.frames _ (good-more (sent c.world.history) _ c.frames p.covers frames) (event_frames s mine (others_ids n nodes ids) set c.world (c.lives n) e sound waits comes);
     }
   where
-    from : (m : Id) → has m nodes ≡ true → (b : Bool) → same n m ≡ b → SoundNode (settings_of nodes initial voting_only m) (cond b (Lived (c.lives n) (Did e (event_course (settings_of nodes initial voting_only n) c e).items)) (c.lives m)) (node_world (event_course (settings_of nodes initial voting_only n) c e).world m)
+    from : (m : Id) → has m nodes ≡ true → (b : Bool) → same n m ≡ b → SoundNode (settings_of nodes initial voting_only second m) (cond b (Lived (c.lives n) (Did e (event_course (settings_of nodes initial voting_only second n) c e).items)) (c.lives m)) (node_world (event_course (settings_of nodes initial voting_only second n) c e).world m)
     from m there true same_id =
-        let s : Settings = settings_of nodes initial voting_only n in
-        subst (λ (i : Id). SoundNode (settings_of nodes initial voting_only i) (Lived (c.lives n) (Did e (event_course s c e).items)) (node_world (event_course s c e).world i)) (same_is n m same_id)
+        let s : Settings = settings_of nodes initial voting_only second n in
+        subst (λ (i : Id). SoundNode (settings_of nodes initial voting_only second i) (Lived (c.lives n) (Did e (event_course s c e).items)) (node_world (event_course s c e).world i)) (same_is n m same_id)
         (event_node s mine (others_ids n nodes ids) set c.world (c.lives n) e sound waits comes)
     from m there false other =
-        let s : Settings = settings_of nodes initial voting_only n in
+        let s : Settings = settings_of nodes initial voting_only second n in
         let p = event_plays s mine (others_ids n nodes ids) set c.world (c.lives n) e sound waits comes in
-        subst (λ (x : NodeWorld). SoundNode (settings_of nodes initial voting_only m) (c.lives m) x) (sym (p.others m other)) (others m there other)
+        subst (λ (x : NodeWorld). SoundNode (settings_of nodes initial voting_only second m) (c.lives m) x) (sym (p.others m other)) (others m there other)

@@ -256,9 +256,9 @@ schedule-made schedule is p c = from (has p.publisher schedule.nodes) refl
 
     from : (b : Bool) → has p.publisher schedule.nodes ≡ b → WasMade (HadSeenIn schedule) (replayed_history schedule) p
     from true listed =
-        let s : Settings = settings_of schedule.nodes schedule.initial schedule.voting_only p.publisher in
+        let s : Settings = settings_of schedule.nodes schedule.initial schedule.voting_only schedule.second p.publisher in
         let life = lives_follow schedule is p.publisher listed in
-        let w : WasMadeIn (settings_of schedule.nodes schedule.initial schedule.voting_only p.publisher) (log_of (replayed_life schedule p.publisher)) at.before p.state.value =
+        let w : WasMadeIn (settings_of schedule.nodes schedule.initial schedule.voting_only schedule.second p.publisher) (log_of (replayed_life schedule p.publisher)) at.before p.state.value =
         life-made s (replayed_life schedule p.publisher) life.follows at.before at.version at.config p.state.value at.outcome
         (subst (IsBeginning (Then at.before (Value at.version at.config p.state.value) at.outcome)) life.acts at.begins) in
         record {

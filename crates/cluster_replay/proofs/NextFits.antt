@@ -3,7 +3,7 @@ use Rattle.std.proofs.Common.{◌≡◌, ℕ, ◌+◌, ◌-◌, ◌%◌, ◌≤�
 use Rattle.std.specs.Prelude.{IfSome, if◌then◌else◌}
 use Rattle.std.specs.List.{list_all, AllByRecursion}
 use Rattle.std.proofs.lemmas.Bool.{and_parts, and_from}
-use Rattle.voting_config.specs.Ids.{Id, is_id, has, with_id, without_id, most_ids, same_config, is_quorum_of, union_count_of, IsIdSet, among, outside, set_of, union, with_room}
+use Rattle.voting_config.specs.Ids.{Id, is_id, has, with_id, without_id, most_ids, is_quorum_of, union_count_of, IsIdSet, among, outside, set_of, union, with_room}
 use Rattle.reconfigurator.specs.Targets.{odd_of, least_size, size_of, candidates_of, chosen_of, target_of}
 use Rattle.voting_config.proofs.Sets.{length-set_of-take}
 use Rattle.voting_config.proofs.Kept.{list_all-filter}
@@ -30,7 +30,8 @@ use Rattle.cluster_state.proofs.Whole.{fit_entries}
 use Rattle.master_tasks.specs.declared.waiting.Waiting.{Waiting}
 use Rattle.master_tasks.specs.Fitting.{HaveGoodSettings}
 use Rattle.master_tasks.specs.Members.{joined, members_after}
-use Rattle.master_tasks.specs.NextState.{Leader, config_for, is_nothing_new, next_config, next_value, processed_by, tasks_after, unacked, value_before}
+use Rattle.master_tasks.specs.declared.policy.Policy.{Policy}
+use Rattle.master_tasks.specs.NextState.{Leader, config_for, is_nothing_new, may_move, next_config, next_value, processed_by, tasks_after, unacked, value_before}
 use Rattle.master_tasks.specs.Processing.{Processing, AnsweredAtOnce, Makes, Processed, and_then, before_all, clearing, excluding, processing, processing_once, putting, value_after, with_next}
 use Rattle.master_tasks.specs.Queue.{Tasks}
 use Rattle.master_tasks.proofs.Limits.{fits_next}
@@ -175,11 +176,11 @@ set-target live excluded me config shrink h a c =
     let chosen = chosen_of live excluded me config shrink in
     elim (is_quorum_of chosen live) as (λ b. IsIdSet (if b then chosen else config)) [ true ↦ set-chosen live excluded me config shrink h a c | false ↦ c ]
 
-set-config : (me : Id) (accepted : ClusterState) (committed votes : List Id) (shrink : Bool) (v : ClusterValue) → is_id me ≡ true → IsIdSet accepted.config → IsIdSet v.members → IsIdSet (config_for me accepted committed votes shrink v)
+set-config : (me : Id) (term : ℕ) (accepted : ClusterState) (committed votes : List Id) (policy : Policy) (v : ClusterValue) → is_id me ≡ true → IsIdSet accepted.config → IsIdSet v.members → IsIdSet (config_for me term accepted committed votes policy v)
 unfolding config_for
-set-config me accepted committed votes shrink v h c m =
-    elim (same_config committed accepted.config) as (λ b. IsIdSet (if b then target_of (among v.members votes) v.exclusions me accepted.config shrink else accepted.config)) [
-      | true ↦ set-target (among v.members votes) v.exclusions me accepted.config shrink h (set-filter _ v.members m) c
+set-config me term accepted committed votes policy v h c m =
+    elim (may_move term accepted committed policy) as (λ b. IsIdSet (if b then target_of (among v.members votes) v.exclusions me accepted.config policy.shrink else accepted.config)) [
+      | true ↦ set-target (among v.members votes) v.exclusions me accepted.config policy.shrink h (set-filter _ v.members m) c
       | false ↦ c
     ]
 
@@ -249,8 +250,8 @@ pub next-config-fits : (l : Leader) (t : Tasks) → is_id l.me ≡ true → FitA
 unfolding next_config
 next-config-fits l t h f g =
     let formed = formed-next l t h f g in
-    let set : IsIdSet (config_for l.me l.accepted l.committed l.votes l.shrink (next_value l t)) =
-    set-config l.me l.accepted l.committed l.votes l.shrink (next_value l t) h (set-fits most_ids l.accepted.config (omega arith) f.config) formed.members
+    let set : IsIdSet (config_for l.me l.term l.accepted l.committed l.votes l.policy (next_value l t)) =
+    set-config l.me l.term l.accepted l.committed l.votes l.policy (next_value l t) h (set-fits most_ids l.accepted.config (omega arith) f.config) formed.members
     in
     fits_ids most_ids (next_config l t) set set.fits
 

@@ -50,54 +50,54 @@ module _ (n m : Id) (other : same n m ≡ false) where
   played_others w (Replies answer ∷ is) = played_others w is
   played_others w (Notes note ∷ is) = played_others w is
 
-  module _ (nodes initial voting_only : List Id) where
-    event_others : (c : Cluster) (e : Event) → node_world (after_event (settings_of nodes initial voting_only n) c e).world m ≡ node_world c.world m
-    event_others c e = played_others c.world (items_of (settings_of nodes initial voting_only n) (log_of (c.lives n)) e)
+  module _ (nodes initial voting_only : List Id) (second : Bool) where
+    event_others : (c : Cluster) (e : Event) → node_world (after_event (settings_of nodes initial voting_only second n) c e).world m ≡ node_world c.world m
+    event_others c e = played_others c.world (items_of (settings_of nodes initial voting_only second n) (log_of (c.lives n)) e)
 
-    if_up_others : (c : Cluster) (e : Event) → node_world (after_event_if_up (settings_of nodes initial voting_only n) c e).world m ≡ node_world c.world m
+    if_up_others : (c : Cluster) (e : Event) → node_world (after_event_if_up (settings_of nodes initial voting_only second n) c e).world m ≡ node_world c.world m
     if_up_others c e = from (needs_opening (node_world c.world n))
       where
-        from : (b : Bool) → node_world (if b then c else after_event (settings_of nodes initial voting_only n) c e).world m ≡ node_world c.world m
+        from : (b : Bool) → node_world (if b then c else after_event (settings_of nodes initial voting_only second n) c e).world m ≡ node_world c.world m
         from true = refl
         from false = event_others c e
 
-    frame_others : (c : Cluster) (o : Option Frame) → node_world (after_frame (settings_of nodes initial voting_only n) c o).world m ≡ node_world c.world m
+    frame_others : (c : Cluster) (o : Option Frame) → node_world (after_frame (settings_of nodes initial voting_only second n) c o).world m ≡ node_world c.world m
     frame_others c None = refl
     frame_others c (Some f) = from (same f.to n)
       where
-        from : (b : Bool) → node_world (if b then after_event_if_up (settings_of nodes initial voting_only n) c (FrameCame f) else c).world m ≡ node_world c.world m
+        from : (b : Bool) → node_world (if b then after_event_if_up (settings_of nodes initial voting_only second n) c (FrameCame f) else c).world m ≡ node_world c.world m
         from true = if_up_others c (FrameCame f)
         from false = refl
 
-    opened_others : (c : Cluster) (end : CallsEnd) → node_world (opened_by (settings_of nodes initial voting_only n) end c).world m ≡ node_world c.world m
-    opened_others c Done = event_others (with_opened (settings_of nodes initial voting_only n) c) Start ∙ (moves_opened n c.world).others m other
+    opened_others : (c : Cluster) (end : CallsEnd) → node_world (opened_by (settings_of nodes initial voting_only second n) end c).world m ≡ node_world c.world m
+    opened_others c Done = event_others (with_opened (settings_of nodes initial voting_only second n) c) Start ∙ (moves_opened n c.world).others m other
     opened_others c Failed = (moves_opened n c.world).others m other
     opened_others c (CrashedIn way) = (moves_opened n c.world).others m other
 
-    restart_others : (c : Cluster) → node_world (after_restart (settings_of nodes initial voting_only n) c).world m ≡ node_world c.world m
+    restart_others : (c : Cluster) → node_world (after_restart (settings_of nodes initial voting_only second n) c).world m ≡ node_world c.world m
     restart_others c = from (needs_opening (node_world c.world n))
       where
-        from : (b : Bool) → node_world (if b then opened_by (settings_of nodes initial voting_only n) (opening (node_world c.world n).disk).ended c else c).world m ≡ node_world c.world m
+        from : (b : Bool) → node_world (if b then opened_by (settings_of nodes initial voting_only second n) (opening (node_world c.world n).disk).ended c else c).world m ≡ node_world c.world m
         from true = opened_others c (opening (node_world c.world n).disk).ended
         from false = refl
 
-module _ (nodes initial voting_only : List Id) (m : Id) (out : has m nodes ≡ false) where
-  line_others : (c : Cluster) (l : Line) → has (node_of l) nodes ≡ true → node_world (after nodes initial voting_only c l).world m ≡ node_world c.world m
-  line_others c (line.Tick n now word) f = if_up_others n m (apart n m nodes f out) nodes initial voting_only c (Tick now word)
-  line_others c (line.Client n bytes) f = if_up_others n m (apart n m nodes f out) nodes initial voting_only c (LineCame 0 bytes)
-  line_others c (line.Disconnect n peer) f = if_up_others n m (apart n m nodes f out) nodes initial voting_only c (PeerGone peer)
-  line_others c (line.Deliver n number) f = frame_others n m (apart n m nodes f out) nodes initial voting_only c (frame_at c number)
+module _ (nodes initial voting_only : List Id) (second : Bool) (m : Id) (out : has m nodes ≡ false) where
+  line_others : (c : Cluster) (l : Line) → has (node_of l) nodes ≡ true → node_world (after nodes initial voting_only second c l).world m ≡ node_world c.world m
+  line_others c (line.Tick n now word) f = if_up_others n m (apart n m nodes f out) nodes initial voting_only second c (Tick now word)
+  line_others c (line.Client n bytes) f = if_up_others n m (apart n m nodes f out) nodes initial voting_only second c (LineCame 0 bytes)
+  line_others c (line.Disconnect n peer) f = if_up_others n m (apart n m nodes f out) nodes initial voting_only second c (PeerGone peer)
+  line_others c (line.Deliver n number) f = frame_others n m (apart n m nodes f out) nodes initial voting_only second c (frame_at c number)
   line_others c (line.Crash n way) f = (moves_crashed n way c.world).others m (apart n m nodes f out)
-  line_others c (line.Restart n) f = restart_others n m (apart n m nodes f out) nodes initial voting_only c
+  line_others c (line.Restart n) f = restart_others n m (apart n m nodes f out) nodes initial voting_only second c
   line_others c (line.Fuse n count way) f = (moves_ordered n (Stop count way) c.world).others m (apart n m nodes f out)
   line_others c (line.Fail n count) f = (moves_ordered n (Fault count) c.world).others m (apart n m nodes f out)
   line_others c (line.Boot n) f = refl
   line_others c (line.StartJoin n candidate term) f = refl
   line_others c (line.Value n version text config) f = refl
 
-  lines_others : (c : Cluster) (ls : List Line) → AllByRecursion (λ (l : Line). has (node_of l) nodes ≡ true) ls → node_world (replayed_from nodes initial voting_only c ls).world m ≡ node_world c.world m
+  lines_others : (c : Cluster) (ls : List Line) → AllByRecursion (λ (l : Line). has (node_of l) nodes ≡ true) ls → node_world (replayed_from nodes initial voting_only second c ls).world m ≡ node_world c.world m
   lines_others c [] f = refl
-  lines_others c (l ∷ ls) f = lines_others (after nodes initial voting_only c l) ls f.1 ∙ line_others c l f.0
+  lines_others c (l ∷ ls) f = lines_others (after nodes initial voting_only second c l) ls f.1 ∙ line_others c l f.0
 
 pub idle-outside : (s : Schedule) → IsWellFormed s → (m : Id) → has m s.nodes ≡ false → node_history (replayed_history s) m ≡ NoActs
-idle-outside s is m out = ap (λ (x : NodeWorld). x.acts) (lines_others s.nodes s.initial s.voting_only m out (fresh_cluster s.nodes s.initial s.voting_only) s.lines is.lines)
+idle-outside s is m out = ap (λ (x : NodeWorld). x.acts) (lines_others s.nodes s.initial s.voting_only s.second m out (fresh_cluster s.nodes s.initial s.voting_only s.second) s.lines is.lines)

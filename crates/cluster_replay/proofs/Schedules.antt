@@ -74,42 +74,42 @@ node_stopped s life way x h = from x.down
 node_ordered : (s : Settings) (life : Life) (order : Order) (x : NodeWorld) → SoundNode s life x → SoundNode s life (after_order order x)
 node_ordered s life order x h = record { follows = h.follows; acts = h.acts; begun = h.begun; ready = h.ready }
 
-module _ (nodes initial voting_only : List Id) (ids : IsIdSet nodes) (set : IsIdSet initial) where
-  line_crash : (n : Id) (way : Way) (c : Cluster) → has n nodes ≡ true → SoundCluster nodes initial voting_only c → SoundCluster nodes initial voting_only (record c { world = crashed c.world n way })
+module _ (nodes initial voting_only : List Id) (second : Bool) (ids : IsIdSet nodes) (set : IsIdSet initial) where
+  line_crash : (n : Id) (way : Way) (c : Cluster) → has n nodes ≡ true → SoundCluster nodes initial voting_only second c → SoundCluster nodes initial voting_only second (record c { world = crashed c.world n way })
   line_crash n way c listed h =
       let moves = moves_crashed n way c.world in
       record {
         world = stopped initial c.world n way h.world;
-        each = each-stays nodes initial voting_only n c.lives c.world (crashed c.world n way) moves.others (subst (λ (x : NodeWorld). SoundNode (settings_of nodes initial voting_only n) (c.lives n) x) (sym moves.own) (node_stopped (settings_of nodes initial voting_only n) (c.lives n) way (node_world c.world n) (h.each n listed))) h.each;
+        each = each-stays nodes initial voting_only second n c.lives c.world (crashed c.world n way) moves.others (subst (λ (x : NodeWorld). SoundNode (settings_of nodes initial voting_only second n) (c.lives n) x) (sym moves.own) (node_stopped (settings_of nodes initial voting_only second n) (c.lives n) way (node_world c.world n) (h.each n listed))) h.each;
         frames = subst (λ (x : History). AllByRecursion (IsGoodFrame (sent x)) c.frames) (history_if c.world _ (c.world.down n) refl) h.frames;
       }
 
-  line_order : (n : Id) (order : Order) (c : Cluster) → has n nodes ≡ true → SoundCluster nodes initial voting_only c → SoundCluster nodes initial voting_only (record c { world = ordered c.world n order })
+  line_order : (n : Id) (order : Order) (c : Cluster) → has n nodes ≡ true → SoundCluster nodes initial voting_only second c → SoundCluster nodes initial voting_only second (record c { world = ordered c.world n order })
   line_order n order c listed h =
       let moves = moves_ordered n order c.world in
       record {
         world = armed initial c.world n order h.world;
-        each = each-stays nodes initial voting_only n c.lives c.world (ordered c.world n order) moves.others (subst (λ (x : NodeWorld). SoundNode (settings_of nodes initial voting_only n) (c.lives n) x) (sym moves.own) (node_ordered (settings_of nodes initial voting_only n) (c.lives n) order (node_world c.world n) (h.each n listed))) h.each;
+        each = each-stays nodes initial voting_only second n c.lives c.world (ordered c.world n order) moves.others (subst (λ (x : NodeWorld). SoundNode (settings_of nodes initial voting_only second n) (c.lives n) x) (sym moves.own) (node_ordered (settings_of nodes initial voting_only second n) (c.lives n) order (node_world c.world n) (h.each n listed))) h.each;
         frames = h.frames;
       }
 
   -- ---- an event
 
-  line_event : (n : Id) (e : Event) (c : Cluster) → has n nodes ≡ true → is_start e ≡ false → MayCome (sent c.world.history) e → SoundCluster nodes initial voting_only c → SoundCluster nodes initial voting_only (after_event_if_up (settings_of nodes initial voting_only n) c e)
+  line_event : (n : Id) (e : Event) (c : Cluster) → has n nodes ≡ true → is_start e ≡ false → MayCome (sent c.world.history) e → SoundCluster nodes initial voting_only second c → SoundCluster nodes initial voting_only second (after_event_if_up (settings_of nodes initial voting_only second n) c e)
   line_event n e c listed start comes h = from (needs_opening (node_world c.world n)) refl
     where
-      from : (b : Bool) → needs_opening (node_world c.world n) ≡ b → SoundCluster nodes initial voting_only (if b then c else after_event (settings_of nodes initial voting_only n) c e)
+      from : (b : Bool) → needs_opening (node_world c.world n) ≡ b → SoundCluster nodes initial voting_only second (if b then c else after_event (settings_of nodes initial voting_only second n) c e)
       from true needs = h
       from false runs =
           let node = h.each n listed in
-          event_sound nodes initial voting_only n c e (listed-id n nodes ids.each listed) ids.each set listed h.world h.frames (λ m there other. h.each m there)
+          event_sound nodes initial voting_only second n c e (listed-id n nodes ids.each listed) ids.each set listed h.world h.frames (λ m there other. h.each m there)
           (record { follows = node.follows; acts = node.acts; runs = runs; ready = node.ready runs; start = start ∙ sym node.begun }) comes
 
-  pub event_named : (n : Id) (e : Event) (c : Cluster) → has n nodes ≡ true → is_start e ≡ false → MayCome (sent c.world.history) e → SoundCluster nodes initial voting_only c → needs_opening (node_world c.world n) ≡ false
-      → AllByRecursion NamesItem (event_course (settings_of nodes initial voting_only n) c e).items
+  pub event_named : (n : Id) (e : Event) (c : Cluster) → has n nodes ≡ true → is_start e ≡ false → MayCome (sent c.world.history) e → SoundCluster nodes initial voting_only second c → needs_opening (node_world c.world n) ≡ false
+      → AllByRecursion NamesItem (event_course (settings_of nodes initial voting_only second n) c e).items
   event_named n e c listed start comes h runs =
       let node = h.each n listed in
-      event_names (settings_of nodes initial voting_only n) (listed-id n nodes ids.each listed) (others_ids n nodes ids.each) set c.world (c.lives n) e h.world
+      event_names (settings_of nodes initial voting_only second n) (listed-id n nodes ids.each listed) (others_ids n nodes ids.each) set c.world (c.lives n) e h.world
       (record { follows = node.follows; acts = node.acts; runs = runs; ready = node.ready runs; start = start ∙ sym node.begun }) comes
 
   fit_message : (ms : List Message) (m : Message) → AllByRecursion IsFitMessage ms → Contains ms m → IsFitMessage m
@@ -121,11 +121,11 @@ module _ (nodes initial voting_only : List Id) (ids : IsIdSet nodes) (set : IsId
       from : (m : FrameMessage) (state : ClusterState) → m ≡ message.Publish state → IsSentBy ms f.from f.to m → state_field.Fits state
       from m state e k = fit_message ms (PublishMessage (record { source = f.from; state = state })) fits (subst (λ (x : FrameMessage). IsSentBy ms f.from f.to x) e k)
 
-  line_frame : (n : Id) (k : ℕ) (o : Option Frame) (c : Cluster) → has n nodes ≡ true → slice_get c.frames k ≡ o → SoundCluster nodes initial voting_only c → SoundCluster nodes initial voting_only (after_frame (settings_of nodes initial voting_only n) c o)
+  line_frame : (n : Id) (k : ℕ) (o : Option Frame) (c : Cluster) → has n nodes ≡ true → slice_get c.frames k ≡ o → SoundCluster nodes initial voting_only second c → SoundCluster nodes initial voting_only second (after_frame (settings_of nodes initial voting_only second n) c o)
   line_frame n k None c listed e h = h
   line_frame n k (Some f) c listed e h = from (same f.to n)
     where
-      from : (b : Bool) → SoundCluster nodes initial voting_only (if b then after_event_if_up (settings_of nodes initial voting_only n) c (FrameCame f) else c)
+      from : (b : Bool) → SoundCluster nodes initial voting_only second (if b then after_event_if_up (settings_of nodes initial voting_only second n) c (FrameCame f) else c)
       from true = line_event n (FrameCame f) c listed refl (frame_comes (sent c.world.history) f h.world.messages (each_at (IsGoodFrame (sent c.world.history)) c.frames k f h.frames e)) h
       from false = h
 
@@ -144,12 +144,12 @@ module _ (nodes initial voting_only : List Id) (ids : IsIdSet nodes) (set : IsId
       from (CrashedIn way) = refl
 
   -- a restart, and what the node does at its start
-  pub line_restart : (n : Id) (c : Cluster) → has n nodes ≡ true → SoundCluster nodes initial voting_only c → SoundCluster nodes initial voting_only (after_restart (settings_of nodes initial voting_only n) c)
-      × (needs_opening (node_world c.world n) ≡ true → (opening (node_world c.world n).disk).ended ≡ Done → AllByRecursion NamesItem (event_course (settings_of nodes initial voting_only n) (with_opened (settings_of nodes initial voting_only n) c) Start).items)
+  pub line_restart : (n : Id) (c : Cluster) → has n nodes ≡ true → SoundCluster nodes initial voting_only second c → SoundCluster nodes initial voting_only second (after_restart (settings_of nodes initial voting_only second n) c)
+      × (needs_opening (node_world c.world n) ≡ true → (opening (node_world c.world n).disk).ended ≡ Done → AllByRecursion NamesItem (event_course (settings_of nodes initial voting_only second n) (with_opened (settings_of nodes initial voting_only second n) c) Start).items)
   line_restart n c listed h = (from (needs_opening (node_world c.world n)) refl, started)
     where
       s : Settings
-      s = settings_of nodes initial voting_only n
+      s = settings_of nodes initial voting_only second n
 
       x : NodeWorld
       x = node_world c.world n
@@ -160,7 +160,7 @@ module _ (nodes initial voting_only : List Id) (ids : IsIdSet nodes) (set : IsId
       k : Bool
       k = is_kept (node_world c.world n).acts (found_at (node_world c.world n))
 
-      node : SoundNode (settings_of nodes initial voting_only n) (c.lives n) (node_world c.world n)
+      node : SoundNode (settings_of nodes initial voting_only second n) (c.lives n) (node_world c.world n)
       node = h.each n listed
 
       own : IsLocal n (node_history c.world.history n)
@@ -178,7 +178,7 @@ module _ (nodes initial voting_only : List Id) (ids : IsIdSet nodes) (set : IsId
 
       -- the life that is opened
       life_acts : acts_of (log_of (settled_life k (c.lives n))) ≡ settled k (node_world c.world n).acts
-      life_acts = settled_acts (settings_of nodes initial voting_only n) k (c.lives n) node.follows ∙ ap (settled k) node.acts
+      life_acts = settled_acts (settings_of nodes initial voting_only second n) k (c.lives n) node.follows ∙ ap (settled k) node.acts
 
       life_continues : needs_opening (node_world c.world n) ≡ true → ContinuesUnlessFirst (acts_of (log_of (settled_life k (c.lives n)))) (Open found)
       life_continues needs = continues (acts_of (log_of (settled_life k (c.lives n)))) found (finds needs ∙ sym (ap durable_of life_acts))
@@ -189,9 +189,9 @@ module _ (nodes initial voting_only : List Id) (ids : IsIdSet nodes) (set : IsId
           let fit = (h.world.nodes n).fit k in
           subst FitAccepted (sym (ap (λ (r : Kept). r.accepted) (finds needs))) (record { config = fit.fits.1.0; value = fit.fits.1.1.1 })
 
-      view : needs_opening (node_world c.world n) ≡ true → FitView (view_of (settings_of nodes initial voting_only n) (log_of (Opened (settled_life k (c.lives n)) found)))
+      view : needs_opening (node_world c.world n) ≡ true → FitView (view_of (settings_of nodes initial voting_only second n) (log_of (Opened (settled_life k (c.lives n)) found)))
       view needs =
-          subst FitView (sym (opening_moves (settings_of nodes initial voting_only n) (settled_life k (c.lives n)) found (life_continues needs)))
+          subst FitView (sym (opening_moves (settings_of nodes initial voting_only second n) (settled_life k (c.lives n)) found (life_continues needs)))
           (
           let fit = (h.world.nodes n).fit k in
           record {
@@ -208,18 +208,18 @@ module _ (nodes initial voting_only : List Id) (ids : IsIdSet nodes) (set : IsId
           }
           )
 
-      own_life : with_life c.lives n (life_opened (settings_of nodes initial voting_only n) c) n ≡ life_opened (settings_of nodes initial voting_only n) c
-      own_life = ap (λ (b : Bool). cond b (life_opened (settings_of nodes initial voting_only n) c) (c.lives n)) (same_self n)
+      own_life : with_life c.lives n (life_opened (settings_of nodes initial voting_only second n) c) n ≡ life_opened (settings_of nodes initial voting_only second n) c
+      own_life = ap (λ (b : Bool). cond b (life_opened (settings_of nodes initial voting_only second n) c) (c.lives n)) (same_self n)
 
       others : needs_opening (node_world c.world n) ≡ true → (m : Id) → has m nodes ≡ true → same n m ≡ false
-          → SoundNode (settings_of nodes initial voting_only m) (with_life c.lives n (life_opened (settings_of nodes initial voting_only n) c) m) (node_world (opened c.world n) m)
+          → SoundNode (settings_of nodes initial voting_only second m) (with_life c.lives n (life_opened (settings_of nodes initial voting_only second n) c) m) (node_world (opened c.world n) m)
       others needs m there other =
-          subst (λ (b : Bool). SoundNode (settings_of nodes initial voting_only m) (cond b (life_opened (settings_of nodes initial voting_only n) c) (c.lives m)) (node_world (opened c.world n) m)) (sym other)
-          (subst (λ (y : NodeWorld). SoundNode (settings_of nodes initial voting_only m) (c.lives m) y) (sym ((moves needs).others m other)) (h.each m there))
+          subst (λ (b : Bool). SoundNode (settings_of nodes initial voting_only second m) (cond b (life_opened (settings_of nodes initial voting_only second n) c) (c.lives m)) (node_world (opened c.world n) m)) (sym other)
+          (subst (λ (y : NodeWorld). SoundNode (settings_of nodes initial voting_only second m) (c.lives m) y) (sym ((moves needs).others m other)) (h.each m there))
 
       -- where the journal is open
       waits : needs_opening (node_world c.world n) ≡ true → (opening (node_world c.world n).disk).ended ≡ Done
-          → Waits (settings_of nodes initial voting_only n) (with_life c.lives n (life_opened (settings_of nodes initial voting_only n) c) n) (node_world (opened c.world n) n) Start
+          → Waits (settings_of nodes initial voting_only second n) (with_life c.lives n (life_opened (settings_of nodes initial voting_only second n) c) n) (node_world (opened c.world n) n) Start
       waits needs e =
           let is : node_world (opened c.world n) n ≡ record { acts = acts_reopened (node_world c.world n).acts found; disk = (opening (node_world c.world n).disk).disk; down = false } =
           (moves needs).own ∙ ap (λ (end : CallsEnd). node_opened end (node_world c.world n).acts (opening (node_world c.world n).disk).disk found) e
@@ -232,37 +232,37 @@ module _ (nodes initial voting_only : List Id) (ids : IsIdSet nodes) (set : IsId
             start = refl;
           }))
 
-      done : needs_opening (node_world c.world n) ≡ true → (opening (node_world c.world n).disk).ended ≡ Done → SoundCluster nodes initial voting_only (after_event (settings_of nodes initial voting_only n) (with_opened (settings_of nodes initial voting_only n) c) Start)
+      done : needs_opening (node_world c.world n) ≡ true → (opening (node_world c.world n).disk).ended ≡ Done → SoundCluster nodes initial voting_only second (after_event (settings_of nodes initial voting_only second n) (with_opened (settings_of nodes initial voting_only second n) c) Start)
       done needs e =
-          event_sound nodes initial voting_only n (with_opened s c) Start (listed-id n nodes ids.each listed) ids.each set listed (world_opened needs)
+          event_sound nodes initial voting_only second n (with_opened s c) Start (listed-id n nodes ids.each listed) ids.each set listed (world_opened needs)
           (subst (λ (ms : List Message). AllByRecursion (IsGoodFrame ms) c.frames) (sym (sent_opened n c needs)) h.frames)
           (others needs) (waits needs e) tt
 
-      started : needs_opening (node_world c.world n) ≡ true → (opening (node_world c.world n).disk).ended ≡ Done → AllByRecursion NamesItem (event_course (settings_of nodes initial voting_only n) (with_opened (settings_of nodes initial voting_only n) c) Start).items
+      started : needs_opening (node_world c.world n) ≡ true → (opening (node_world c.world n).disk).ended ≡ Done → AllByRecursion NamesItem (event_course (settings_of nodes initial voting_only second n) (with_opened (settings_of nodes initial voting_only second n) c) Start).items
       started needs e =
           event_names s (listed-id n nodes ids.each listed) (others_ids n nodes ids.each) set (opened c.world n) (with_life c.lives n (life_opened s c) n) Start (world_opened needs) (waits needs e) tt
 
       -- where it could not be opened
-      stays : needs_opening (node_world c.world n) ≡ true → node_world (opened c.world n) n ≡ record { acts = (node_world c.world n).acts; disk = (opening (node_world c.world n).disk).disk; down = true } → SoundCluster nodes initial voting_only (record c { world = opened c.world n })
+      stays : needs_opening (node_world c.world n) ≡ true → node_world (opened c.world n) n ≡ record { acts = (node_world c.world n).acts; disk = (opening (node_world c.world n).disk).disk; down = true } → SoundCluster nodes initial voting_only second (record c { world = opened c.world n })
       stays needs is = record {
         world = world_opened needs;
-        each = each-stays nodes initial voting_only n c.lives c.world (opened c.world n) (moves needs).others
-            (subst (λ (y : NodeWorld). SoundNode (settings_of nodes initial voting_only n) (c.lives n) y) (sym is) (record { follows = node.follows; acts = node.acts; begun = node.begun; ready = λ up. absurd (cc) })) h.each;
+        each = each-stays nodes initial voting_only second n c.lives c.world (opened c.world n) (moves needs).others
+            (subst (λ (y : NodeWorld). SoundNode (settings_of nodes initial voting_only second n) (c.lives n) y) (sym is) (record { follows = node.follows; acts = node.acts; begun = node.begun; ready = λ up. absurd (cc) })) h.each;
         frames = subst (λ (ms : List Message). AllByRecursion (IsGoodFrame ms) c.frames) (sym (sent_opened n c needs)) h.frames;
       }
 
-      by_end : needs_opening (node_world c.world n) ≡ true → (end : CallsEnd) → (opening (node_world c.world n).disk).ended ≡ end → SoundCluster nodes initial voting_only (opened_by (settings_of nodes initial voting_only n) end c)
+      by_end : needs_opening (node_world c.world n) ≡ true → (end : CallsEnd) → (opening (node_world c.world n).disk).ended ≡ end → SoundCluster nodes initial voting_only second (opened_by (settings_of nodes initial voting_only second n) end c)
       by_end needs Done e = done needs e
       by_end needs Failed e = stays needs ((moves needs).own ∙ ap (λ (end : CallsEnd). node_opened end (node_world c.world n).acts (opening (node_world c.world n).disk).disk found) e)
       by_end needs (CrashedIn way) e = stays needs ((moves needs).own ∙ ap (λ (end : CallsEnd). node_opened end (node_world c.world n).acts (opening (node_world c.world n).disk).disk found) e)
 
-      from : (b : Bool) → needs_opening (node_world c.world n) ≡ b → SoundCluster nodes initial voting_only (if b then opened_by (settings_of nodes initial voting_only n) (opening (node_world c.world n).disk).ended c else c)
+      from : (b : Bool) → needs_opening (node_world c.world n) ≡ b → SoundCluster nodes initial voting_only second (if b then opened_by (settings_of nodes initial voting_only second n) (opening (node_world c.world n).disk).ended c else c)
       from false runs = h
       from true needs = by_end needs (opening (node_world c.world n).disk).ended refl
 
   -- ---- the lines
 
-  pub line_sound : (c : Cluster) (l : Line) → has (node_of l) nodes ≡ true → SoundCluster nodes initial voting_only c → SoundCluster nodes initial voting_only (after nodes initial voting_only c l)
+  pub line_sound : (c : Cluster) (l : Line) → has (node_of l) nodes ≡ true → SoundCluster nodes initial voting_only second c → SoundCluster nodes initial voting_only second (after nodes initial voting_only second c l)
   line_sound c (line.Tick n now word) f h = line_event n (Tick now word) c f refl tt h
   line_sound c (line.Client n bytes) f h = line_event n (LineCame 0 bytes) c f refl (good-asks bytes) h
   line_sound c (line.Disconnect n peer) f h = line_event n (PeerGone peer) c f refl tt h
@@ -275,11 +275,11 @@ module _ (nodes initial voting_only : List Id) (ids : IsIdSet nodes) (set : IsId
   line_sound c (line.StartJoin n candidate term) f h = h
   line_sound c (line.Value n version text config) f h = h
 
-  lines_sound : (c : Cluster) (ls : List Line) → AllByRecursion (λ (l : Line). has (node_of l) nodes ≡ true) ls → SoundCluster nodes initial voting_only c → SoundCluster nodes initial voting_only (replayed_from nodes initial voting_only c ls)
+  lines_sound : (c : Cluster) (ls : List Line) → AllByRecursion (λ (l : Line). has (node_of l) nodes ≡ true) ls → SoundCluster nodes initial voting_only second c → SoundCluster nodes initial voting_only second (replayed_from nodes initial voting_only second c ls)
   lines_sound c [] f h = h
-  lines_sound c (l ∷ ls) f h = lines_sound (after nodes initial voting_only c l) ls f.1 (line_sound c l f.0 h)
+  lines_sound c (l ∷ ls) f h = lines_sound (after nodes initial voting_only second c l) ls f.1 (line_sound c l f.0 h)
 
-  pub fresh_sound : SoundCluster nodes initial voting_only (fresh_cluster nodes initial voting_only)
+  pub fresh_sound : SoundCluster nodes initial voting_only second (fresh_cluster nodes initial voting_only second)
   fresh_sound = record {
     world = fresh initial;
     each = λ n listed. record {
@@ -291,8 +291,8 @@ module _ (nodes initial voting_only : List Id) (ids : IsIdSet nodes) (set : IsId
     frames = tt;
   }
 
-sound : (s : Schedule) → IsWellFormed s → SoundCluster s.nodes s.initial s.voting_only (replayed_from s.nodes s.initial s.voting_only (fresh_cluster s.nodes s.initial s.voting_only) s.lines)
-sound s is = lines_sound s.nodes s.initial s.voting_only is.nodes is.initial (fresh_cluster s.nodes s.initial s.voting_only) s.lines is.lines (fresh_sound s.nodes s.initial s.voting_only is.nodes is.initial)
+sound : (s : Schedule) → IsWellFormed s → SoundCluster s.nodes s.initial s.voting_only s.second (replayed_from s.nodes s.initial s.voting_only s.second (fresh_cluster s.nodes s.initial s.voting_only s.second) s.lines)
+sound s is = lines_sound s.nodes s.initial s.voting_only s.second is.nodes is.initial (fresh_cluster s.nodes s.initial s.voting_only s.second) s.lines is.lines (fresh_sound s.nodes s.initial s.voting_only s.second is.nodes is.initial)
 
 pub lives_follow : LawLivesFollow
 lives_follow s is n listed = let node = (sound s is).each n listed in record { follows = node.follows; acts = sym node.acts }
@@ -302,8 +302,8 @@ cluster_replay_is_legal s is = (sound s is).world.legal
 
 pub cluster_replies_are_true : LawClusterRepliesAreTrue
 cluster_replies_are_true s is n listed =
-    replies_are_true s.initial (replayed_history s) (cluster_replay_is_legal s is) (settings_of s.nodes s.initial s.voting_only n) (replayed_life s n)
-    (run_of_life (replayed_history s) (settings_of s.nodes s.initial s.voting_only n) (replayed_life s n) (lives_follow s is n listed))
+    replies_are_true s.initial (replayed_history s) (cluster_replay_is_legal s is) (settings_of s.nodes s.initial s.voting_only s.second n) (replayed_life s n)
+    (run_of_life (replayed_history s) (settings_of s.nodes s.initial s.voting_only s.second n) (replayed_life s n) (lives_follow s is n listed))
 
 -- one of some ids that are all among others is one of those
 among_others : (ids xs : List Id) (x : Id) → are_among ids xs ≡ true → has x xs ≡ true → has x ids ≡ true
@@ -323,7 +323,7 @@ voting_only_never_wins s is among w won = from (has w.node s.voting_only) refl
     counts_none : has w.node s.voting_only ≡ true → CountsNoJoin (node_history (replayed_history s) w.node)
     counts_none listed =
         let life = lives_follow s is w.node (among_others s.nodes s.voting_only w.node among listed) in
-        subst CountsNoJoin (sym life.acts) (voting_only_never_leads (settings_of s.nodes s.initial s.voting_only w.node) (replayed_life s w.node) life.follows listed).joins
+        subst CountsNoJoin (sym life.acts) (voting_only_never_leads (settings_of s.nodes s.initial s.voting_only s.second w.node) (replayed_life s w.node) life.follows listed).joins
 
     from : (b : Bool) → has w.node s.voting_only ≡ b → b ≡ false
     from true listed = absurd (no_winner s.initial (replayed_history s) w.node (cluster_replay_is_legal s is) (counts_none listed) w won refl)

@@ -7,7 +7,7 @@ use Rattle.schedule_text.specs.declared.schedule.Line.{Line}
 use Rattle.schedule_text.specs.declared.schedule.Line.TheVariants as line
 use Rattle.schedule_text.specs.declared.schedule.Schedule.{Schedule}
 use Rattle.schedule_text.specs.Lines.{FitsLine}
-use Rattle.schedule_text.specs.Spelled.{Spells, Nothing, Text}
+use Rattle.schedule_text.specs.Spelled.{IsSchedule, Spells, Nothing, Text, Nobody}
 use Rattle.trace_text.proofs.IdLists.{none_set, ids_set}
 use Rattle.cluster_replay.specs.Laws.{IsWellFormed, node_of}
 
@@ -28,10 +28,15 @@ are_listed : (nodes : List Id) (ls : List Line) → AllByRecursion (FitsLine Nod
 are_listed nodes [] f = tt
 are_listed nodes (l ∷ ls) f = (is_listed nodes l f.0, are_listed nodes ls f.1)
 
+formed : (s : Schedule) → IsSchedule Node s → IsWellFormed s
+formed s is = record { nodes = ids_set s.nodes is.nodes; initial = ids_set s.initial is.initial; lines = are_listed s.nodes s.lines is.lines }
+
 pub well_formed : (bytes : List ℕ) (s : Schedule) → Spells Node bytes s → IsWellFormed s
 well_formed _ _ Nothing = record { nodes = none_set; initial = none_set; lines = tt }
-well_formed _ _ (Text s is within) = record { nodes = ids_set s.nodes is.nodes; initial = ids_set s.initial is.initial; lines = are_listed s.nodes s.lines is.lines }
+well_formed _ _ (Text s is within) = formed s is
+well_formed _ _ (Nobody s at none is within) = formed s is
 
 pub voting_only_among : (bytes : List ℕ) (s : Schedule) → Spells Node bytes s → are_among s.nodes s.voting_only ≡ true
 voting_only_among _ _ Nothing = refl
 voting_only_among _ _ (Text s is within) = is.voting_only.1
+voting_only_among _ _ (Nobody s at none is within) = is.voting_only.1

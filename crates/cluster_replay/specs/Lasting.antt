@@ -22,7 +22,7 @@ use Rattle.cluster_replay.specs.Laws.{IsWellFormed}
 pub record HadSeenIn (schedule : Schedule) (s : Settings) (moment : Log) : Type 0 where
   pub node : Id
   pub is_node : has node schedule.nodes ≡ true
-  pub settings : s ≡ settings_of schedule.nodes schedule.initial schedule.voting_only node
+  pub settings : s ≡ settings_of schedule.nodes schedule.initial schedule.voting_only schedule.second node
   pub part : IsPartOf moment (log_of (replayed_life schedule node))
 
 -- Each published state whose id is not below that of a committed one was made of it, by states that nodes of the schedule made, and has

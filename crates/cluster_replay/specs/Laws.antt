@@ -34,7 +34,7 @@ pub record IsWellFormed (s : Schedule) : Type 0 where
 abbrev pub LawLivesFollow : Type 0
 LawLivesFollow =
     (s : Schedule) → IsWellFormed s → (n : Id) → has n s.nodes ≡ true
-    → IsLifeIn (replayed_history s) (settings_of s.nodes s.initial s.voting_only n) (replayed_life s n)
+    → IsLifeIn (replayed_history s) (settings_of s.nodes s.initial s.voting_only s.second n) (replayed_life s n)
 
 -- whatever the lines crash, fail and restart, and wherever in a device call
 abbrev pub LawClusterReplayIsLegal : Type 0
@@ -50,4 +50,4 @@ LawVotingOnlyNeverWins =
 abbrev pub LawClusterRepliesAreTrue : Type 0
 LawClusterRepliesAreTrue =
     (s : Schedule) → IsWellFormed s → (n : Id) → has n s.nodes ≡ true
-    → RepliesTruly (replayed_history s) (settings_of s.nodes s.initial s.voting_only n) (replayed_life s n)
+    → RepliesTruly (replayed_history s) (settings_of s.nodes s.initial s.voting_only s.second n) (replayed_life s n)
