@@ -1,19 +1,22 @@
 -- What a node does where the connection to another has ended.
-use Rattle.std.proofs.Common.{◌≡◌, ℕ, Bool, true, List, [], ◌∷◌, ◌++◌, refl, sym, ap, subst, ◌∙◌}
+use Rattle.std.proofs.Common.{◌≡◌, ℕ, ◌+◌, Bool, true, false, not, ◌&&◌, List, [], ◌∷◌, ◌++◌, refl, sym, ap, subst, ◌∙◌}
 use Rattle.std.specs.Prelude.{Option, if◌then◌else◌, is_some}
 use Rattle.state_journal.specs.declared.keeper.Keeper.{Ghosts}
-use Rattle.voting_config.specs.Ids.{Id, has}
+use Rattle.voting_config.specs.Ids.{Id, has, with_room}
 use Rattle.peer_finder.specs.Peers.{answer_in}
 use Rattle.fault_checks.specs.Followers.{ids_of}
 use Rattle.master_tasks.specs.Queue.{Tasks, to_be_removed}
 use Rattle.master_tasks.specs.NextState.{leader_of}
+use Rattle.world_model.specs.Replies.{elects}
 use Rattle.policy_model.specs.declared.settings.Settings.{Settings}
 use Rattle.policy_model.specs.declared.events.DropCause.TheVariants.{Disconnect}
 use Rattle.policy_model.specs.Events.{Item, Drops, Notes, PeerLost, LeaderLost}
 use Rattle.policy_model.specs.Views.{View}
 use Rattle.policy_model.specs.Moves.{moved_all}
-use Rattle.policy_model.specs.Doing.{then_rule, becomes_candidate}
-use Rattle.policy_model.specs.Disconnects.{drops_follower, goes_on_with_rest, loses_follower, loses_leader, loses_peer}
+use Rattle.policy_model.specs.Doing.{then_rule, becomes_candidate, is_second}
+use Rattle.policy_model.specs.NextState.{is_in_flight, is_hopeless}
+use Rattle.policy_model.specs.Elections.{stands_for_election}
+use Rattle.policy_model.specs.Disconnects.{drops_follower, keeps_quorum, leads_anew, goes_on_with_rest, loses_follower, loses_leader, loses_peer}
 use Rattle.coordinator.specs.Ahead.{HasPlan}
 use Rattle.coordinator.specs.Plans.{IsPlanned}
 use Rattle.coordinator.specs.Showing.{Shown}
@@ -31,6 +34,15 @@ pub planned_loss : (s : Settings) (v : View) (p : Id) (plan : Option Plan) (copy
 planned_loss s v p plan copy tasks copy_is tasks_is has_it =
     has_planned s (moved_all s v (drops_follower s p)) (leader_of s.me v.node.term v.node.accepted v.node.committed v.node.join_votes s.policy) tasks plan has_it refl
     (tasks_is ∙ ap (λ (t : Tasks). to_be_removed t p) copy_is)
+
+-- the quorum of a leader, by the followers that it watches
+pub quorum_watched : (s : Settings) (v : View) (up : List Id) (elected : Bool) → (is_second s && is_in_flight v.publication) ≡ false → up ≡ with_room (ids_of v.followers.watched) s.me
+    → elected ≡ elects v.node up → elected ≡ keeps_quorum s v
+quorum_watched s v up elected apart up_is is =
+    let watched = elects v.node (with_room (ids_of v.followers.watched) s.me) in
+    let hoped = not (is_hopeless v v.publication) in
+    is ∙ ap (λ (ids : List Id). elects v.node ids) up_is
+    ∙ ap (λ (b : Bool). if b then hoped else watched) (sym apart)
 
 module _ {K : Type 0} (k : Ghosts K) where
   abbrev view : Coordinator K → View
@@ -77,3 +89,11 @@ module _ {K : Type 0} (k : Ghosts K) where
       let v = view old in
       subst (λ (x : Shown). Make old new x o1 (loses_leader s v)) same
       (makes_then k old mid new o0 o1 o1 (becomes_candidate s v) (Notes LeaderLost ∷ []) first second)
+
+  -- a leader becomes a candidate, and stands for election
+  pub led_anew : (old mid new : Coordinator K) (o o1 o2 : Shown) (term : ℕ) → Make old mid o o1 (becomes_candidate old.settings (view old))
+      → term ≡ (view mid).node.term + 1 → Make mid new o1 o2 (stands_for_election mid.settings (view mid) term)
+      → Make old new o o2 (leads_anew old.settings (view old))
+  led_anew old mid new o o1 o2 term first term_is second =
+      ends_rule k old mid new o o1 o2 (becomes_candidate old.settings (view old)) (λ s u. stands_for_election s u (u.node.term + 1)) true first
+      (makes_as k mid new o1 o2 _ _ second (ap (λ (n : ℕ). stands_for_election mid.settings (view mid) n) term_is))

@@ -251,7 +251,7 @@ impl<K: Keeper> Coordinator<K> {
     // How many such voters there are.
     fn rank(&self, free: &NodeSet) -> u32
         requires free { free.now ≡ free_nodes_of self.now.settings (view_in K.Keeper self.now) }
-        ensures { result ≡ length (filter (λ id. comes_first_of self.now.settings (view_in K.Keeper self.now) id) (view_in K.Keeper self.now).node.accepted.config) }
+        ensures count { result ≡ length (filter (λ id. comes_first_of self.now.settings (view_in K.Keeper self.now) id) (view_in K.Keeper self.now).node.accepted.config) }
         ensures few { result ≤ 64 }
     {
         let config = &self.core.accepted().config;

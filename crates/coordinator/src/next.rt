@@ -5,7 +5,7 @@ ghost use Rattle.master_tasks.specs.NextState.{next_answers};
 ghost use Rattle.policy_model.specs.Views.{View};
 ghost use Rattle.policy_model.specs.Parts.{as_master};
 ghost use Rattle.policy_model.specs.Doing.{is_leader, may_win as may_win_of};
-ghost use Rattle.policy_model.specs.NextState.{asks_votes, goes_on, lacks_vote as lacks_vote_of, wants_votes as wants_votes_of, makes_state, hands_over, publishes, is_in_flight, asks_successor, successor_of};
+ghost use Rattle.policy_model.specs.NextState.{asks_votes, goes_on, lacks_vote as lacks_vote_of, wants_votes as wants_votes_of, makes_state, hands_over, publishes, is_in_flight as is_in_flight_of, asks_successor, successor_of};
 ghost use Rattle.coord_state.specs.StandsFor.{request_of};
 ghost use Rattle.coordinator.specs.Does.{Does, Ends};
 ghost use Rattle.coordinator.specs.Plans.{IsPlan, IsNewState, IsPlanned, makes_next, replies_planned, state_by};
@@ -39,7 +39,7 @@ fn first_among(ids: &NodeSet, others: &NodeSet, barred: &NodeSet) -> Option<Node
 impl<K: Keeper> Coordinator<K> {
     // Whether a publication is in flight.
     pub(crate) fn is_in_flight(&self) -> bool
-        ensures { result ≡ is_in_flight self.now.publication }
+        ensures { result ≡ is_in_flight_of self.now.publication }
     {
         match &self.publication {
             None => false,
@@ -49,7 +49,7 @@ impl<K: Keeper> Coordinator<K> {
 
     // Whether it leads and has no publication in flight.
     pub(crate) fn is_free_leader(&self) -> bool
-        ensures { result ≡ (is_leader self.now.mode && not (is_in_flight self.now.publication)) }
+        ensures { result ≡ (is_leader self.now.mode && not (is_in_flight_of self.now.publication)) }
     {
         let mode = self.mode;
         match mode {

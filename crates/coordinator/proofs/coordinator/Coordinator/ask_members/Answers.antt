@@ -1,6 +1,6 @@
 use Rattle.std.proofs.Common.{◌+◌, ◌<◌, ◌∙◌, ap, arith}
 use Rattle.cluster_state.specs.Field.{last_number}
-use Rattle.coordinator.proofs.Going.{asks_found, asks_late, asks_nobody}
+use Rattle.coordinator.proofs.Going.{asks_found, asks_late}
 use Rattle.coordinator.proofs.coordinator.Coordinator.ask_members.Goals as goal
 
 pub returns-then-term-le-LAST_NUMBER : goal.returns-then-term-le-LAST_NUMBER
