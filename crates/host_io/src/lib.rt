@@ -15,6 +15,7 @@ mod owner;
 mod queue;
 mod sockets;
 mod streams;
+mod unfinished;
 
 pub use children::{Children, SystemChild, Unwaited};
 pub use disk::FileDisks;
