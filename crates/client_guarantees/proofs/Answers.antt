@@ -3,7 +3,7 @@ use Rattle.std.proofs.Common.{◌≡◌, ℕ, Bool, true, false, Option, None, S
 use Rattle.std.specs.Prelude.{if◌then◌else◌, is_some, is_none, nat_le, nat_eq, fold, not, ◌&&◌, ◌+◌, length, map}
 use Rattle.std.specs.List.{cons_option}
 use Rattle.std.specs.Option.{option_map}
-use Rattle.std.proofs.lemmas.Bool.{and_parts, or_parts, not-true}
+use Rattle.std.proofs.lemmas.Bool.{both_ways, and_parts, or_parts, not-true}
 use Rattle.std.proofs.lemmas.Bool.Decides.{nat_tests}
 use Rattle.std.proofs.lemmas.List.{append_assoc, append-nil}
 use Rattle.voting_config.specs.Ids.{Id, has, same, among, some_among}
@@ -27,19 +27,63 @@ use Rattle.master_tasks.specs.Queue.{Tasks}
 use Rattle.master_tasks.specs.Replying.{answer_to}
 use Rattle.master_tasks.specs.Answering.{answers_by, left_by, excluded_by, failed, committed_in, unless_voting, exclusion_done, if_late, timed_out, nothing_new}
 use Rattle.master_tasks.specs.Processing.{Processing, AnsweredAtOnce, Makes, excluding, clearing, processing, processing_once, Processed, before_all, and_then, with_next}
-use Rattle.master_tasks.specs.NextState.{Leader as NextMaster, value_before, processed_by, next_value, is_accepted, is_nothing_new, next_answers}
+use Rattle.master_tasks.specs.NextState.{Leader as NextMaster, value_before, processed_by, next_value, is_accepted, is_write, has_writes, is_nothing_new, next_answers}
 use Rattle.master_tasks.proofs.Sameness.{stays_accepted}
 use Rattle.world_model.specs.Histories.{History}
+use Rattle.policy_model.specs.declared.settings.Settings.{Settings}
 use Rattle.voting_config.proofs.Sets.{same_is}
 use Rattle.world_model.specs.Safety.{Published, IsCommitted}
 use Rattle.client_guarantees.specs.Replies.{HasCommitted}
 use Rattle.client_guarantees.specs.Asked.{MeetsEach, HasNoVoterOf}
 use Rattle.client_guarantees.proofs.Folding.{Each, each-map, IsAmong, Of, had-behind}
-use Rattle.client_guarantees.proofs.Telling.{Basis, Up, AckIsTrue, AnswerIsTrue, AllTrue, true-none, true-cons, true-append}
+use Rattle.client_guarantees.proofs.Telling.{Basis, Up, IsNewFor, AckIsTrue, AnswerIsTrue, AllTrue, true-none, true-cons, true-append}
 
 -- nobody waits on where nobody waits
 pub left_none : (decide : Waiting → Option Answer) (ws : List Waiting) → ws ≡ [] → left_by decide ws ≡ []
 left_none decide ws e = ap (left_by decide) e
+
+-- a request that was processed is among these, and the state of this id is new for it
+abbrev pub IsProcessedFor : Settings → Basis → List Waiting → StateId → Waiting → Type 0
+IsProcessedFor s P done id w = w.processed ≡ true → IsAmong done w × IsNewFor s P id w
+
+pub each-both : (P Q : Waiting → Type 0) (ws : List Waiting) → Each P ws → Each Q ws → Each (λ w. P w × Q w) ws
+each-both P Q [] e f = tt
+each-both P Q (w ∷ ws) e f = ((e.0, f.0), each-both P Q ws e.1 f.1)
+
+pub each-processed : (s : Settings) (P : Basis) (done : List Waiting) (id : StateId) (ws : List Waiting) → Each (λ w. w.processed ≡ true → IsAmong done w) ws → Each (λ w. w.processed ≡ true → IsNewFor s P id w) ws → Each (IsProcessedFor s P done id) ws
+each-processed s P done id [] e f = tt
+each-processed s P done id (w ∷ ws) e f = ((λ t. (e.0 t, f.0 t)), each-processed s P done id ws e.1 f.1)
+
+-- an exclusion is no write
+no_write : {A : Type 0} (a : Ask) (ids : List Id) → excluded_by a ≡ Some ids → is_write a ≡ true → A
+no_write (ask.Put key text) ids e w = absurd (cc)
+no_write (ask.Remove key) ids e w = absurd (cc)
+no_write (ask.Exclude asked) ids e w = absurd (true≢false (sym w))
+no_write (ask.Clear wait) ids e w = absurd (cc)
+no_write ask.State ids e w = absurd (cc)
+
+-- in the second profile it is no write
+abbrev pub IsNoWrite : Settings → Waiting → Type 0
+IsNoWrite s w = s.policy.second ≡ true → is_write w.request.ask ≡ false
+
+none_write : (ws : List Waiting) → has_writes ws ≡ false → Each (λ w. is_write w.request.ask ≡ false) ws
+none_write [] e = tt
+none_write (w ∷ ws) e = let parts = or_parts (is_write w.request.ask) (has_writes ws) e in (parts.0, none_write ws parts.1)
+
+each-no_write : (s : Settings) (ws : List Waiting) → (s.policy.second ≡ true → has_writes ws ≡ false) → Each (IsNoWrite s) ws
+each-no_write s [] f = tt
+each-no_write s (w ∷ ws) f = ((λ x. (or_parts (is_write w.request.ask) (has_writes ws) (f x)).0), each-no_write s ws (λ x. (or_parts (is_write w.request.ask) (has_writes ws) (f x)).1))
+
+left_false : (x y z b : Bool) → not ((x || y) && b) && z ≡ true → b ≡ true → y ≡ false
+left_false x false z b e f = refl
+left_false false true z true e f = absurd (true≢false (sym e))
+left_false true true z true e f = absurd (true≢false (sym e))
+left_false x true z false e f = absurd (true≢false (sym f))
+
+-- where nothing is new in the second profile, no write waits
+pub no_writes : (s : Settings) (l : NextMaster) (t : Tasks) → l.policy ≡ s.policy → is_nothing_new l t ≡ true → Each (IsNoWrite s) (processed_by l t).waiting
+unfolding is_nothing_new
+no_writes s l t y n = each-no_write s (processed_by l t).waiting (λ x. left_false _ _ _ l.policy.second n (ap (λ p. p.second) y ∙ x))
 
 -- a state of an earlier term is none of this one
 other_term : (a b : ℕ) (x y : Bool) → a < b → (nat_eq a b && x && y) ≡ false
@@ -123,9 +167,9 @@ none_is : (o : Option (List Id)) → is_none o ≡ true → is_some o ≡ false
 none_is None e = refl
 none_is (Some ids) e = absurd (true≢false (sym e))
 
-module _ (h : History) (P : Basis) (g : List Waiting) where
-  granted : (done : List Waiting) (id : StateId) → (d : HasDone h P.low g done id) → (w : Waiting) → HasNoVoterOf d.as_published.state.config w.request.ask → IsAmong done w → AckIsTrue h P.low g w.conn w.request.id id
-  granted done id d w n a =
+module _ (h : History) (s : Settings) (P : Basis) (g : List Waiting) where
+  granted : (done : List Waiting) (id : StateId) → (d : HasDone h P.low g done id) → (w : Waiting) → HasNoVoterOf d.as_published.state.config w.request.ask → IsNewFor s P id w → IsAmong done w → AckIsTrue h s P g w.conn w.request.id id
+  granted done id d w n k a =
       let p = split done w a in
       record {
         request = w;
@@ -136,6 +180,7 @@ module _ (h : History) (P : Basis) (g : List Waiting) where
         has_conn = refl;
         has_number = refl;
         since = d.since;
+        is_new = k;
         as_published = d.as_published;
         is_committed = d.is_committed;
         is_id = d.is_id;
@@ -145,38 +190,40 @@ module _ (h : History) (P : Basis) (g : List Waiting) where
 
   abbrev pub IsTrueOption : Waiting → Option Answer → Type 0
   IsTrueOption w None = Unit {0}
-  IsTrueOption w (Some a) = AnswerIsTrue h P g w.conn w.request.id a
+  IsTrueOption w (Some a) = AnswerIsTrue h s P g w.conn w.request.id a
 
-  true-decided : (w : Waiting) (o : Option Answer) (rest : List Outgoing) → IsTrueOption w o → AllTrue h P g rest → AllTrue h P g (cons_option (option_map (answer_to w) o) rest)
+  true-decided : (w : Waiting) (o : Option Answer) (rest : List Outgoing) → IsTrueOption w o → AllTrue h s P g rest → AllTrue h s P g (cons_option (option_map (answer_to w) o) rest)
   true-decided w None rest t a = a
-  true-decided w (Some x) rest t a = true-cons h P g (answer_to w x) rest t a
+  true-decided w (Some x) rest t a = true-cons h s P g (answer_to w x) rest t a
 
-  true-answers_by : (decide : Waiting → Option Answer) (ws : List Waiting) → Each (λ w. IsTrueOption w (decide w)) ws → AllTrue h P g (answers_by decide ws)
-  true-answers_by decide [] e = true-none h P g
+  true-answers_by : (decide : Waiting → Option Answer) (ws : List Waiting) → Each (λ w. IsTrueOption w (decide w)) ws → AllTrue h s P g (answers_by decide ws)
+  true-answers_by decide [] e = true-none h s P g
   true-answers_by decide (w ∷ ws) e = true-decided w (decide w) (answers_by decide ws) e.0 (true-answers_by decide ws e.1)
 
   true-if : (w : Waiting) (b : Bool) (x y : Option Answer) → (b ≡ true → IsTrueOption w x) → (b ≡ false → IsTrueOption w y) → IsTrueOption w (if b then x else y)
   true-if w true x y t u = t refl
   true-if w false x y t u = u refl
 
-  pub true-failed : (term : ℕ) (ws : List Waiting) → AllTrue h P g (answers_by (failed term) ws)
+  pub true-failed : (term : ℕ) (ws : List Waiting) → AllTrue h s P g (answers_by (failed term) ws)
   true-failed term ws = true-answers_by (failed term) ws (each-all (λ w. IsTrueOption w (failed term w)) (λ w. tt) ws)
 
   late_one : (w : Waiting) (committed : List Id) (late : Bool) (o : Option (List Id)) → IsTrueOption w (if_late committed late o)
   late_one w committed late None = tt
   late_one w committed late (Some ids) = true-if w late (Some (answer.ExclusionTimeout (among ids committed))) None (λ e. tt) (λ e. tt)
 
-  pub true-timed_out : (committed : List Id) (now : ℕ) (ws : List Waiting) → AllTrue h P g (answers_by (timed_out committed now) ws)
+  pub true-timed_out : (committed : List Id) (now : ℕ) (ws : List Waiting) → AllTrue h s P g (answers_by (timed_out committed now) ws)
   true-timed_out committed now ws = true-answers_by (timed_out committed now) ws (each-all (λ w. IsTrueOption w (timed_out committed now w)) (λ w. late_one w committed _ (excluded_by w.request.ask)) ws)
 
-  committed_one : (done : List Waiting) (id : StateId) → HasDone h P.low g done id → (w : Waiting) → (w.processed ≡ true → IsAmong done w) → IsTrueOption w (committed_in id w)
+  committed_one : (done : List Waiting) (id : StateId) → HasDone h P.low g done id → (w : Waiting) → IsProcessedFor s P done id w → IsTrueOption w (committed_in id w)
   committed_one done id d w a =
       true-if w (w.processed && is_none (excluded_by w.request.ask)) (Some (answer.Acked id)) None
-      (λ e. granted done id d w (excludes_none _ w.request.ask (none_is _ (and_parts _ _ e).1)) (a (and_parts _ _ e).0)) (λ e. tt)
+      (λ e.
+      let p = a (and_parts _ _ e).0 in
+      granted done id d w (excludes_none _ w.request.ask (none_is _ (and_parts _ _ e).1)) p.1 p.0) (λ e. tt)
 
-  pub true-committed_in : (done : List Waiting) (id : StateId) → HasDone h P.low g done id → (ws : List Waiting) → Each (λ w. w.processed ≡ true → IsAmong done w) ws → AllTrue h P g (answers_by (committed_in id) ws)
+  pub true-committed_in : (done : List Waiting) (id : StateId) → HasDone h P.low g done id → (ws : List Waiting) → Each (IsProcessedFor s P done id) ws → AllTrue h s P g (answers_by (committed_in id) ws)
   true-committed_in done id d ws e =
-      true-answers_by (committed_in id) ws (each-map (λ w. w.processed ≡ true → IsAmong done w) (λ w. IsTrueOption w (committed_in id w)) (committed_one done id d) ws e)
+      true-answers_by (committed_in id) ws (each-map (IsProcessedFor s P done id) (λ w. IsTrueOption w (committed_in id w)) (committed_one done id d) ws e)
 
   -- the committed configuration is the state's
   module _ (done : List Waiting) (committed : List Id) (id : StateId) (d : HasDone h P.low g done id) (c : committed ≡ d.as_published.state.config) where
@@ -184,25 +231,25 @@ module _ (h : History) (P : Basis) (g : List Waiting) where
     voting_one w None e a = tt
     voting_one w (Some asked) e a =
         true-if w (w.processed && not (some_among asked committed)) (Some (answer.Acked id)) None
-        (λ t. granted done id d w (no_voter _ w.request.ask asked e (subst (λ (l : List Id). some_among asked l ≡ false) c (not-true _ (and_parts _ _ t).1))) (a (and_parts _ _ t).0)) (λ t. tt)
+        (λ t. granted done id d w (no_voter _ w.request.ask asked e (subst (λ (l : List Id). some_among asked l ≡ false) c (not-true _ (and_parts _ _ t).1))) (λ x y. no_write w.request.ask asked e y) (a (and_parts _ _ t).0)) (λ t. tt)
 
-    pub true-exclusion_done : (ws : List Waiting) → Each (λ w. w.processed ≡ true → IsAmong done w) ws → AllTrue h P g (answers_by (exclusion_done committed id) ws)
+    pub true-exclusion_done : (ws : List Waiting) → Each (λ w. w.processed ≡ true → IsAmong done w) ws → AllTrue h s P g (answers_by (exclusion_done committed id) ws)
     true-exclusion_done ws e =
         true-answers_by (exclusion_done committed id) ws
         (each-map (λ w. w.processed ≡ true → IsAmong done w) (λ w. IsTrueOption w (exclusion_done committed id w)) (λ w a. voting_one w (excluded_by w.request.ask) refl a) ws e)
 
-    nothing_new_one : (w : Waiting) → IsAmong done w → IsTrueOption w (nothing_new committed id w)
+    nothing_new_one : (w : Waiting) → IsAmong done w × IsNoWrite s w → IsTrueOption w (nothing_new committed id w)
     nothing_new_one w a =
         true-if w (is_some (excluded_by w.request.ask)) (exclusion_done committed id w) (Some (answer.Acked id))
-        (λ e. voting_one w (excluded_by w.request.ask) refl (λ t. a)) (λ e. granted done id d w (excludes_none _ w.request.ask e) a)
+        (λ e. voting_one w (excluded_by w.request.ask) refl (λ t. a.0)) (λ e. granted done id d w (excludes_none _ w.request.ask e) (λ x y. absurd (both_ways _ (a.1 x) y)) a.0)
 
-    true-nothing_new : (ws : List Waiting) → Each (IsAmong done) ws → AllTrue h P g (answers_by (nothing_new committed id) ws)
+    true-nothing_new : (ws : List Waiting) → Each (λ w. IsAmong done w × IsNoWrite s w) ws → AllTrue h s P g (answers_by (nothing_new committed id) ws)
     true-nothing_new ws e =
-        true-answers_by (nothing_new committed id) ws (each-map (IsAmong done) (λ w. IsTrueOption w (nothing_new committed id w)) nothing_new_one ws e)
+        true-answers_by (nothing_new committed id) ws (each-map (λ w. IsAmong done w × IsNoWrite s w) (λ w. IsTrueOption w (nothing_new committed id w)) nothing_new_one ws e)
 
   -- requests that are answered at once are not acknowledged, and one for the state is shown the accepted one
   abbrev IsTrueProcessing : Waiting → Processing → Type 0
-  IsTrueProcessing w (AnsweredAtOnce a) = AnswerIsTrue h P g w.conn w.request.id a
+  IsTrueProcessing w (AnsweredAtOnce a) = AnswerIsTrue h s P g w.conn w.request.id a
   IsTrueProcessing w (Makes value) = Unit {0}
 
   either : (w : Waiting) (b : Bool) (x y : Processing) → IsTrueProcessing w x → IsTrueProcessing w y → IsTrueProcessing w (if b then x else y)
@@ -226,19 +273,19 @@ module _ (h : History) (P : Basis) (g : List Waiting) where
   true-processing w accepted value (ask.Clear wait) e c = true-clearing w value (cleared_of value.exclusions value.members wait)
   true-processing w accepted value ask.State e c = record { request = w.request; has_number = refl; is_asked = e; came = c.1; committed = c.0 }
 
-  true-and_then : (p : Processed) (w : Waiting) (x : Processing) → IsTrueProcessing w x → AllTrue h P g p.answers → AllTrue h P g (and_then p w x).answers
-  true-and_then p w (AnsweredAtOnce a) t all = true-append h P g p.answers (answer_to w a ∷ []) all (true-cons h P g (answer_to w a) [] t (true-none h P g))
+  true-and_then : (p : Processed) (w : Waiting) (x : Processing) → IsTrueProcessing w x → AllTrue h s P g p.answers → AllTrue h s P g (and_then p w x).answers
+  true-and_then p w (AnsweredAtOnce a) t all = true-append h s P g p.answers (answer_to w a ∷ []) all (true-cons h s P g (answer_to w a) [] t (true-none h s P g))
   true-and_then p w (Makes made) t all = all
 
-  true-processed : (accepted : ClusterState) (p : Processed) (ws : List Waiting) → Each (MayBeShown h P accepted) ws → AllTrue h P g p.answers → AllTrue h P g (fold (with_next accepted) p ws).answers
+  true-processed : (accepted : ClusterState) (p : Processed) (ws : List Waiting) → Each (MayBeShown h P accepted) ws → AllTrue h s P g p.answers → AllTrue h s P g (fold (with_next accepted) p ws).answers
   true-processed accepted p [] c all = all
   true-processed accepted p (w ∷ ws) c all =
       true-processed accepted (with_next accepted p w) ws c.1
       (true-and_then p w (processing_once accepted p.value w) (either w w.processed (Makes p.value) (processing accepted p.value w.request.ask) tt (true-processing w accepted p.value w.request.ask refl c.0)) all)
 
-  true-when : (b : Bool) (xs : List Outgoing) → (b ≡ true → AllTrue h P g xs) → AllTrue h P g (if b then xs else [])
+  true-when : (b : Bool) (xs : List Outgoing) → (b ≡ true → AllTrue h s P g xs) → AllTrue h s P g (if b then xs else [])
   true-when true xs a = a refl
-  true-when false xs a = true-none h P g
+  true-when false xs a = true-none h s P g
 
   -- where nothing is new, the accepted state has what was processed
   has_done : (l : NextMaster) (t : Tasks) (older done : List Waiting) → g ≡ older ++ done → MeetsEach (next_value l t) done → (c : HasCommitted h l.accepted) → Up P.low (id_of l.accepted) → is_nothing_new l t ≡ true → HasDone h P.low g done (id_of l.accepted)
@@ -255,11 +302,11 @@ module _ (h : History) (P : Basis) (g : List Waiting) where
       }
 
   -- the answers of a next state
-  pub true-next : (l : NextMaster) (t : Tasks) (older done : List Waiting) → g ≡ older ++ done → MeetsEach (next_value l t) done → Each (IsAmong done) (processed_by l t).waiting
-      → Each (MayBeShown h P l.accepted) t.waiting → (is_nothing_new l t ≡ true → IsSettled h P.low l) → AllTrue h P g (next_answers l t)
+  pub true-next : (l : NextMaster) (t : Tasks) (older done : List Waiting) → l.policy ≡ s.policy → g ≡ older ++ done → MeetsEach (next_value l t) done → Each (IsAmong done) (processed_by l t).waiting
+      → Each (MayBeShown h P l.accepted) t.waiting → (is_nothing_new l t ≡ true → IsSettled h P.low l) → AllTrue h s P g (next_answers l t)
   unfolding next_answers processed_by has_done
-  true-next l t older done e a w shown c =
-      true-append h P g _ _ (true-processed l.accepted (before_all (value_before l.me t l.accepted.value)) t.waiting shown (true-none h P g))
+  true-next l t older done y e a w shown c =
+      true-append h s P g _ _ (true-processed l.accepted (before_all (value_before l.me t l.accepted.value)) t.waiting shown (true-none h s P g))
       (true-when (is_nothing_new l t) _ (λ n.
       let k = c n in
-      true-nothing_new done l.committed (id_of l.accepted) (has_done l t older done e a k.committed k.since n) (k.config ∙ sym (ap (λ (x : ClusterState). x.config) k.committed.is_state)) (processed_by l t).waiting w))
+      true-nothing_new done l.committed (id_of l.accepted) (has_done l t older done e a k.committed k.since n) (k.config ∙ sym (ap (λ (x : ClusterState). x.config) k.committed.is_state)) (processed_by l t).waiting (each-both (IsAmong done) (IsNoWrite s) _ w (no_writes s l t y n))))

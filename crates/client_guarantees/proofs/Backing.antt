@@ -1,5 +1,5 @@
 -- What the acts of all nodes say of a node that takes an act.
-use Rattle.std.proofs.Common.{◌≡◌, ℕ, ◌<◌, ◌≤◌, Bool, true, false, cond, Option, None, Some, List, refl, sym, ◌∙◌, ap, subst, arith, ◌⊎◌, inl, inr}
+use Rattle.std.proofs.Common.{◌≡◌, ◌≢◌, ℕ, ◌<◌, ◌≤◌, Bool, true, false, cond, Option, None, Some, List, refl, sym, ◌∙◌, ap, subst, arith, ◌⊎◌, inl, inr}
 use Rattle.std.specs.List.{Contains}
 use Rattle.voting_config.specs.Ids.{Id, with_id}
 use Rattle.cluster_state.specs.declared.state.ClusterState.{ClusterState}
@@ -14,21 +14,22 @@ use Rattle.world_model.specs.declared.acts.Act.{Act}
 use Rattle.world_model.specs.declared.acts.ActReply.{ActReply}
 use Rattle.world_model.specs.declared.acts.Message.{Message}
 use Rattle.world_model.specs.declared.acts.Act.TheVariants.{Bootstrap, StartJoin, TakeJoin, Value, Publish, Response, Commit, Open}
+use Rattle.world_model.specs.declared.acts.Outcome.{Outcome}
 use Rattle.world_model.specs.declared.acts.Outcome.TheVariants.{Answered}
 use Rattle.world_model.specs.declared.acts.ActReply.TheVariants.{Taken, Refused, Stopped}
-use Rattle.world_model.specs.declared.acts.Message.TheVariants.{Commit as CommitMessage}
+use Rattle.world_model.specs.declared.acts.Message.TheVariants.{Publish as PublishMessage, Commit as CommitMessage}
 use Rattle.world_model.specs.Acts.{NodeHistory, Then}
 use Rattle.world_model.specs.NodeState.{NodeState, node_state, term_of, accepted_of, election_won_of, published_version_of, publish_votes_of}
 use Rattle.world_model.specs.Replies.{commits, is_taken}
-use Rattle.world_model.specs.Histories.{History, node_history, sent}
+use Rattle.world_model.specs.Histories.{History, Next, node_history, sent, IsPrefix}
 use Rattle.world_model.specs.Safety.{Published, IsCommitted, published, published_by}
 use Rattle.world_model.proofs.Guards.{value_guard, publish_guard, response_guard, commit_guard}
-use Rattle.world_model.proofs.Moments.{Begins, begins_before}
+use Rattle.world_model.proofs.Moments.{Begins, begins_before, IsSent, sent_later}
 use Rattle.world_model.proofs.System.{IsSystem, execution_before, taken_up}
 use Rattle.world_model.proofs.Rounds.{ok, WonAt, won_later, won_has_win, last_values}
 use Rattle.world_model.proofs.Elected.{winning}
 use Rattle.world_model.proofs.Below.{win_of}
-use Rattle.world_model.proofs.Legal.{moment, is_listed, prefix_before, sent_to}
+use Rattle.world_model.proofs.Legal.{moment, listed, is_listed, one_of, none_of, prefix_before, prefix_trans, act_begins, sent_to}
 use Rattle.world_model.proofs.Facts.{IsPublished, HasSentCommit}
 use Rattle.world_model.proofs.FactsHold.{accepted_known, facts_of_system, election_to}
 use Rattle.agreement.proofs.Elections.{win_base_older}
@@ -87,6 +88,15 @@ Backs h p (Response response) reply = commits_now reply ≡ true → HasCommitte
 Backs h p (Commit commit) reply = is_taken reply ≡ true → TakesCommit h p
 Backs h p act reply = Unit {0}
 
+-- the node, that had done so much, publishes a state whose id was published by none when it had done no more
+pub record IsPublishedAt (h : History) (n : Id) (g : NodeHistory) (version : ℕ) (config : List Id) (value : ClusterValue) : Type 0 where
+  pub as_published : Published
+  pub is_in : Contains (published h) as_published
+  pub is_state : as_published.state ≡ state_of (node_state g) version config value
+  pub publisher : as_published.publisher ≡ n
+  pub not_yet : (q : History) → IsPrefix q h → Begins (node_history q n) g → (p : Published) → Contains (published q) p
+      → id_of p.state ≢ record { term = term_of g; version = version }
+
 -- the commit that a response may send
 commit_is : (b : Bool) (m : Message) (c : ApplyCommit) → Some m ≡ cond b (Some (CommitMessage c)) None → m ≡ CommitMessage c
 commit_is true m c e = cc
@@ -94,6 +104,20 @@ commit_is false m c e = cc
 
 commit_same : {m n : Id} {t u v w : ℕ} → m ≡ n → t ≡ u → v ≡ w → Path ApplyCommit (record { source = m; term = t; version = v }) (record { source = n; term = u; version = w })
 commit_same p q r = λ i. record { source = p i; term = q i; version = r i }
+
+-- who published a state has sent it
+record IsSentBy (node : Id) (o : Outcome) (p : Published) : Type 0 where
+  publisher : p.publisher ≡ node
+  request : PublishRequest
+  flag : Bool
+  is_outcome : o ≡ Answered (Taken (Some (PublishMessage request)) flag)
+  is_state : request.state ≡ p.state
+
+sent_by_publisher : (q : History) (node : Id) (o : Outcome) (p : Published) → Contains (published_by q node o) p → IsSentBy node o p
+sent_by_publisher q node (Answered (Taken (Some (PublishMessage r)) w)) p c =
+    let is = one_of _ p c in
+    record { publisher = ap (λ (x : Published). x.publisher) (sym is); request = r; flag = w; is_outcome = refl; is_state = ap (λ (x : Published). x.state) is }
+sent_by_publisher q node o p c = none_of p c
 
 -- a commit that was sent, with the state that it commits
 record Committed (h : History) (term version : ℕ) : Type 0 where
@@ -195,20 +219,48 @@ module _ (h : History) (root : ClusterState) (W : IsSystem (node_history h) root
         (agree_terms (facts_of_system h root W) q.state.term).one_state p q a b term refl version;
   }
 
-  at_value : (n : Id) (g : NodeHistory) (version : ℕ) (config : List Id) (value : ClusterValue) (s : Option Message) (w : Bool)
-      → Begins (Then g (Value version config value) (Answered (Taken s w))) (node_history h n) → IsPublished h (state_of (node_state g) version config value)
-  at_value n g version config value s w b =
+  -- a value is published, by its node, and its id was not before
+  pub value_published : (n : Id) (g : NodeHistory) (version : ℕ) (config : List Id) (value : ClusterValue) (s : Option Message) (w : Bool)
+      → Begins (Then g (Value version config value) (Answered (Taken s w))) (node_history h n) → IsPublishedAt h n g version config value
+  value_published n g version config value s w b =
       let act : Act = Value version config value in
       let f = execution_before (node_history h) root n _ (node_history h n) (W n) b in
       let k = value_guard n g version config value s w f.1.follows.follows in
+      let u = taken_up n g act (Answered (Taken s w)) f.1.follows refl k.runs in
+      let x = won_has_win (node_history h) root W n g f.0 u k.won in
+      let last = last_values (node_history h) root W n g f.0 u k.won x.before x.won x.same_term in
       let m = moment h n g act (Answered (Taken s w)) b in
       let p : Published = record { publisher = n; state = state_of (node_state g) version config value; parent = accepted_of (node_history m.before n) } in
+      let is_in : Contains (published h) p = is_listed published (λ x n a o. published_by x n o) refl (λ x n a o. refl) h p m.before n act (Answered (Taken s w)) m.is_in
+      (subst (λ (o : Option Message). Contains (published_by m.before n (Answered (Taken o w))) p) (sym k.sends) (0, (omega arith), refl)) in
       record {
         as_published = p;
-        is_in = is_listed published (λ x n a o. published_by x n o) refl (λ x n a o. refl) h p m.before n act (Answered (Taken s w)) m.is_in
-            (subst (λ (o : Option Message). Contains (published_by m.before n (Answered (Taken o w))) p) (sym k.sends) (0, (omega arith), refl));
+        is_in = is_in;
         is_state = refl;
+        publisher = refl;
+        not_yet = λ q i e o c same.
+            let at = listed published (λ x n a o. published_by x n o) refl (λ x n a o. refl) q o c in
+            let whole = prefix_trans (Next at.before at.node at.act at.outcome) q h at.is_in i in
+            let known : Contains (published h) o = is_listed published (λ x n a o. published_by x n o) refl (λ x n a o. refl) h o at.before at.node at.act at.outcome whole at.adds in
+            let one : o ≡ p = unique.same o p known is_in same in
+            let sent = sent_by_publisher at.before at.node at.outcome o at.adds in
+            let mine : at.node ≡ n = sym sent.publisher ∙ ap (λ (y : Published). y.publisher) one in
+            let did : Begins (Then (node_history at.before at.node) at.act (Answered (Taken (Some (PublishMessage sent.request)) sent.flag))) (node_history q at.node) =
+            subst (λ (y : Outcome). Begins (Then (node_history at.before at.node) at.act y) (node_history q at.node)) sent.is_outcome (act_begins at.before q at.node at.act at.outcome at.is_in) in
+            let was : IsSent (node_history q at.node) (PublishMessage sent.request) = record { before = node_history at.before at.node; act = at.act; flag = sent.flag; is_in = did } in
+            let is_sent : IsSent g (PublishMessage sent.request) = sent_later (node_history q n) g (PublishMessage sent.request) e (subst (λ (y : Id). IsSent (node_history q y) (PublishMessage sent.request)) mine was) in
+            let term : sent.request.state.term ≡ term_of g = ap (λ (y : ClusterState). y.term) sent.is_state ∙ ap (λ (y : StateId). y.term) same in
+            let own : sent.request.state.version ≡ version = ap (λ (y : ClusterState). y.version) sent.is_state ∙ ap (λ (y : StateId). y.version) same in
+            let low = (last.within sent.request is_sent term).1 in
+            let above = k.above in
+            omega (arith, low, above, own);
       }
+
+  at_value : (n : Id) (g : NodeHistory) (version : ℕ) (config : List Id) (value : ClusterValue) (s : Option Message) (w : Bool)
+      → Begins (Then g (Value version config value) (Answered (Taken s w))) (node_history h n) → IsPublished h (state_of (node_state g) version config value)
+  at_value n g version config value s w b =
+      let p = value_published n g version config value s w b in
+      record { as_published = p.as_published; is_in = p.is_in; is_state = p.is_state }
 
   pub backs : (n : Id) (g : NodeHistory) (act : Act) (reply : ActReply) → Begins (Then g act (Answered reply)) (node_history h n) → Backs h (node_state g) act reply
   backs n g (TakeJoin j) (Taken s true) b = λ e. at_join n g j s b

@@ -17,7 +17,8 @@ use Rattle.cluster_state.specs.States.{id_of}
 use Rattle.client_lines.specs.Reading.{line_request}
 use Rattle.wire_frames.specs.declared.frame.WireMessage.{WireMessage}
 use Rattle.wire_frames.specs.declared.frame.WireMessage.TheVariants as message
-use Rattle.master_tasks.specs.NextState.{processed_by, next_value, config_for, next_config, is_accepted, is_nothing_new, next_answers, tasks_after}
+use Rattle.master_tasks.specs.Queue.{Tasks, only}
+use Rattle.master_tasks.specs.NextState.{Leader as NextMaster, processed_by, next_value, config_for, next_config, is_accepted, is_nothing_new, next_answers, tasks_after}
 use Rattle.master_tasks.specs.declared.waiting.Waiting.{Waiting}
 use Rattle.master_tasks.specs.declared.waiting.Outgoing.{Outgoing}
 use Rattle.world_model.specs.Acts.{NodeHistory, NoActs, Then}
@@ -217,3 +218,29 @@ is_kept line e =
       is_id = g.is_id;
       has = subst (λ (w : Waiting). MeetsUnlessUndone g.as_published.state.value w []) o.0 (subst (λ (l : List Waiting). MeetsUnlessUndone g.as_published.state.value g.request l) o.1 g.meets.0) refl;
     }
+
+-- ---- a leader that was replaced and does not know it, with its own state as the last that it accepted: it is asked to put what is there
+
+abbrev replaced : Bool → NextMaster
+replaced by_second = record { me = a; term = 1; accepted = second; committed = a ∷ []; votes = a ∷ []; policy = record { shrink = true; second = by_second } }
+
+abbrev put_again : Tasks
+put_again = only (record { conn = 5; arrived = 8; request = put; processed = false } ∷ [])
+
+-- by the first profile nothing is new, and it acks the put at once, with the state that it published before the line came
+acked_at_once : next_answers (replaced false) put_again ≡ record { conn = 5; reply = reply.To 9 (answer.Acked (id 1 2)) } ∷ []
+unfolding processed_by next_value config_for next_config is_accepted is_nothing_new next_answers
+acked_at_once = refl
+
+-- by the second it answers nobody, and makes a state, which needs the others
+acked_by_others : (next_answers (replaced true) put_again ≡ []) × (is_nothing_new (replaced true) put_again ≡ false)
+unfolding processed_by next_value config_for next_config is_accepted is_nothing_new next_answers
+acked_by_others = (refl, refl)
+
+-- of exclusions none is a write: one that changes nothing, of a node that does not vote, is acked at once by both
+abbrev exclude_again : Tasks
+exclude_again = only (record { conn = 5; arrived = 8; request = record { id = 9; ask = ask.Exclude [] }; processed = false } ∷ [])
+
+excluded_at_once : next_answers (replaced true) exclude_again ≡ record { conn = 5; reply = reply.To 9 (answer.Acked (id 1 2)) } ∷ []
+unfolding processed_by next_value config_for next_config is_accepted is_nothing_new next_answers
+excluded_at_once = refl

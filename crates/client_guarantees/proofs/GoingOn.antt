@@ -33,9 +33,9 @@ use Rattle.client_guarantees.proofs.Leading.{IsDone, HasWon}
 use Rattle.client_guarantees.proofs.Steady.{standing, steady-sends, steady-hands_over, steady-asks_votes}
 use Rattle.client_guarantees.proofs.Folding.{Each, each-map, IsAmong, next_folded, next_had, Of, of-waiting}
 use Rattle.client_guarantees.proofs.Backing.{HasAcceptedLast, IsUnique}
-use Rattle.client_guarantees.proofs.Telling.{Basis, Up, HasReached, place, true-later, grown, Keeps, keeps-none, keeps-then, keeps-if, keeps-item, keeps-steady, keeps-replies}
+use Rattle.client_guarantees.proofs.Telling.{Basis, Up, IsNewFor, HasReached, place, true-later, grown, Keeps, keeps-none, keeps-then, keeps-if, keeps-item, keeps-steady, keeps-replies}
 use Rattle.client_guarantees.proofs.Holding.{IsMade, Holds, IsReadyToGo, ready-holds, each-if, each-left, holds-value}
-use Rattle.client_guarantees.proofs.Answers.{something_new, IsSettled, MayBeShown, true-next}
+use Rattle.client_guarantees.proofs.Answers.{IsNoWrite, no_writes, something_new, IsSettled, MayBeShown, true-next}
 use Rattle.client_guarantees.proofs.Modes.{keeps-becomes_candidate}
 
 -- a leader that does not go on has a publication
@@ -77,14 +77,14 @@ reached_last low v won d r =
 
 module _ (h : History) (U : IsUnique h) (s : Settings) (P : Basis) where
   -- the accepted state is the one that the node published last
-  pub accepted_made : (v : View) (g : List Waiting) (m : IsMade h (place v g)) → IsDone h v.node → m.as_published.state ≡ v.node.accepted
+  pub accepted_made : (v : View) (g : List Waiting) (m : IsMade h s P (place v g)) → IsDone h v.node → m.as_published.state ≡ v.node.accepted
   accepted_made v g m d =
       let id : id_of v.node.accepted ≡ published_id v.node = λ i. record { term = d.last.term i; version = d.last.version i } in
       ap (λ (p : Published). p.state)
       (U.same m.as_published d.committed.as_published m.is_in d.committed.is_committed.0 (m.is_id ∙ sym (ap id_of d.committed.is_state ∙ id)))
       ∙ d.committed.is_state
 
-  base-made : (v : View) (g : List Waiting) → IsMade h (place v g) → IsDone h v.node → HasBase v g
+  base-made : (v : View) (g : List Waiting) → IsMade h s P (place v g) → IsDone h v.node → HasBase v g
   base-made v g m d = record {
     older = m.older;
     done = m.done;
@@ -144,7 +144,7 @@ module _ (h : History) (U : IsUnique h) (s : Settings) (P : Basis) where
       let left : Each (Of P.came) (moved s v (Notes StateMade)).tasks.waiting = each-after (Of P.came) master v.tasks (of-waiting P.came master v.tasks came) in
       let rest : List Item = if is_nothing_new master v.tasks then [] else next.publishes s v made in
       keeps-replies h s P v g (next_answers master v.tasks) (Notes StateMade ∷ rest) (Holds h s P)
-      (λ r. true-later h P k _ (next_answers master v.tasks) (grown s made k rest) (true-next h P k master v.tasks n.older n.done n.processed n.had n.wait shown (c r)))
+      (λ r. true-later h s P k _ (next_answers master v.tasks) (grown s made k rest) (true-next h s P k master v.tasks n.older n.done refl n.processed n.had n.wait shown (c r)))
       (keeps-item h s P v g (Notes StateMade) _ (Holds h s P) refl
       (λ a. keeps-if h s P made k (is_nothing_new master v.tasks) [] _ (Holds h s P)
       (λ e. keeps-none h s P made k (Holds h s P) (same e n left))
@@ -175,7 +175,7 @@ module _ (h : History) (U : IsUnique h) (s : Settings) (P : Basis) where
           nothing : {q : Option Publication} → q ≡ None → q ≡ Some p → ⊥
           nothing k n = cc
 
-          same : (made : IsMade h (place v g)) → made.as_published.state ≡ v.node.accepted → is_nothing_new (as_master s v.node) v.tasks ≡ true → MakesNow v (g ++ processed_into_next (as_master s v.node) v.tasks)
+          same : (made : IsMade h s P (place v g)) → made.as_published.state ≡ v.node.accepted → is_nothing_new (as_master s v.node) v.tasks ≡ true → MakesNow v (g ++ processed_into_next (as_master s v.node) v.tasks)
               → Each (Of P.came) (moved s v (Notes StateMade)).tasks.waiting → Holds h s P (place (moved s v (Notes StateMade)) (g ++ processed_into_next (as_master s v.node) v.tasks))
           same made accepted t k left = record {
             stands = record {
@@ -191,6 +191,8 @@ module _ (h : History) (U : IsUnique h) (s : Settings) (P : Basis) where
               processed = k.processed;
               had = subst (λ (x : ClusterValue). MeetsEach x k.done) ((stays_accepted (as_master s v.node) v.tasks t).value ∙ sym (ap (λ (x : ClusterState). x.value) accepted)) k.had;
               among = left_among v (g ++ processed_into_next (as_master s v.node) v.tasks) k;
+              new = each-after (λ w. w.processed ≡ true → IsNewFor s P (published_id v.node) w) (as_master s v.node) v.tasks
+                  (each-map (IsNoWrite s) (λ w. w.processed ≡ true → IsNewFor s P (published_id v.node) w) (λ w n p y z. absurd (both_ways _ (n y) z)) (processed_by (as_master s v.node) v.tasks).waiting (no_writes s (as_master s v.node) v.tasks refl t));
             };
             came = left;
           }

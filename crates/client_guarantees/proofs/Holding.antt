@@ -7,6 +7,7 @@ use Rattle.voting_config.specs.Ids.{Id}
 use Rattle.cluster_state.specs.States.{id_of}
 use Rattle.cluster_state.specs.declared.state.ClusterState.{ClusterState}
 use Rattle.cluster_state.specs.declared.state.ClusterValue.{ClusterValue}
+use Rattle.cluster_state.specs.declared.state.StateId.{StateId}
 use Rattle.cluster_state.specs.declared.messages.Join.{Join}
 use Rattle.cluster_state.specs.declared.messages.PublishRequest.{PublishRequest}
 use Rattle.cluster_state.specs.declared.messages.PublishResponse.{PublishResponse}
@@ -37,10 +38,11 @@ use Rattle.client_guarantees.proofs.Steady.{Standing}
 use Rattle.client_guarantees.proofs.Leading.{IsIdle, Stands, IsReady, stands-idle, ready-stands, stands-waiting, refused-stands, stands-publish, stands-commit, stands-response, stands-join, stands-value}
 use Rattle.client_guarantees.proofs.Folding.{Each, each-map, IsAmong, Of}
 use Rattle.client_guarantees.proofs.Backing.{Backs}
-use Rattle.client_guarantees.proofs.Telling.{Basis, Place, place}
+use Rattle.client_guarantees.proofs.Telling.{Basis, IsNewFor, Renews, Place, place}
 
--- The state that a node published last is published, and has what was processed since some moment, unless a later request may have undone it. The requests that wait and are processed were processed since.
-pub record IsMade (h : History) (x : Place) : Type 0 where
+-- The state that a node published last is published, and has what was processed since some moment, unless a later request may have undone it. The requests that wait and are processed were processed since, and the
+-- state is new for them.
+pub record IsMade (h : History) (s : Settings) (P : Basis) (x : Place) : Type 0 where
   pub as_published : Published
   pub is_in : Contains (published h) as_published
   pub is_id : id_of as_published.state ≡ published_id x.stands.node
@@ -49,20 +51,21 @@ pub record IsMade (h : History) (x : Place) : Type 0 where
   pub processed : x.processed ≡ older ++ done
   pub had : MeetsEach as_published.state.value done
   pub among : Each (λ w. w.processed ≡ true → IsAmong done w) x.stands.waiting
+  pub new : Each (λ w. w.processed ≡ true → IsNewFor s P (published_id x.stands.node) w) x.stands.waiting
 
-abbrev pub WhereMade : History → Place → Type 0
-WhereMade h x = is_leader x.stands.mode ≡ true → is_some x.stands.publication ≡ true → IsMade h x
+abbrev pub WhereMade : History → Settings → Basis → Place → Type 0
+WhereMade h s P x = is_leader x.stands.mode ≡ true → is_some x.stands.publication ≡ true → IsMade h s P x
 
 -- between events: who waits came, too
 pub record Holds (h : History) (s : Settings) (P : Basis) (x : Place) : Type 0 where
   pub stands : Stands h s x.stands
-  pub made : WhereMade h x
+  pub made : WhereMade h s P x
   pub came : Each (Of P.came) x.stands.waiting
 
 -- before a leader goes on
 pub record IsReadyToGo (h : History) (s : Settings) (P : Basis) (x : Place) : Type 0 where
   pub ready : IsReady h s x.stands
-  pub made : WhereMade h x
+  pub made : WhereMade h s P x
   pub came : Each (Of P.came) x.stands.waiting
 
 -- requests that are left
@@ -96,12 +99,28 @@ module _ (h : History) (s : Settings) (P : Basis) where
   ready-holds x i = record { ready = ready-stands h s x.stands i.stands; made = i.made; came = i.came }
 
   -- where more came
-  pub holds-more : (R : Basis) → ((conn : ℕ) (r : Request) → R.came conn r → P.came conn r) → (x : Place) → Holds h s R x → Holds h s P x
-  holds-more R f x i = record { stands = i.stands; made = i.made; came = each-map (Of R.came) (Of P.came) (λ w q. f w.conn w.request q) x.stands.waiting i.came }
+  pub holds-more : (R : Basis) → ((conn : ℕ) (r : Request) → R.came conn r → P.came conn r) → ((conn : ℕ) (r : Request) (id : StateId) → R.anew conn r id → P.anew conn r id) → (x : Place) → Holds h s R x → Holds h s P x
+  holds-more R f n x i = record {
+    stands = i.stands;
+    made = λ l p.
+        let m = i.made l p in
+        record {
+          as_published = m.as_published;
+          is_in = m.is_in;
+          is_id = m.is_id;
+          older = m.older;
+          done = m.done;
+          processed = m.processed;
+          had = m.had;
+          among = m.among;
+          new = each-map (λ w. w.processed ≡ true → IsNewFor s R (published_id x.stands.node) w) (λ w. w.processed ≡ true → IsNewFor s P (published_id x.stands.node) w) (λ w k t y z. n w.conn w.request (published_id x.stands.node) (k t y z)) x.stands.waiting m.new;
+        };
+    came = each-map (Of R.came) (Of P.came) (λ w q. f w.conn w.request q) x.stands.waiting i.came;
+  }
 
   -- what the claim of the last published state rests on
   pub made-again : (x y : Place) → published_id y.stands.node ≡ published_id x.stands.node → y.processed ≡ x.processed
-      → ((R : Waiting → Type 0) → Each R x.stands.waiting → Each R y.stands.waiting) → IsMade h x → IsMade h y
+      → ((R : Waiting → Type 0) → Each R x.stands.waiting → Each R y.stands.waiting) → IsMade h s P x → IsMade h s P y
   made-again x y n g w m = record {
     as_published = m.as_published;
     is_in = m.is_in;
@@ -111,6 +130,7 @@ module _ (h : History) (s : Settings) (P : Basis) where
     processed = g ∙ m.processed;
     had = m.had;
     among = w (λ v. v.processed ≡ true → IsAmong m.done v) m.among;
+    new = w (λ v. v.processed ≡ true → IsNewFor s P (published_id y.stands.node) v) (subst (λ (id : StateId). Each (λ v. v.processed ≡ true → IsNewFor s P id v) x.stands.waiting) (sym n) m.new);
   }
 
   pub holds-waiting : (x : Place) (ws : List Waiting) → (x.stands.waiting ≡ [] → ws ≡ []) → ((R : Waiting → Type 0) → Each R x.stands.waiting → Each R ws)
@@ -152,10 +172,10 @@ module _ (h : History) (s : Settings) (P : Basis) where
 
   -- a publication begins, of a value that has what was processed
   pub holds-value : (v : View) (g older done : List Waiting) (version : ℕ) (config : List Id) (value : ClusterValue) (r : ActReply) → is_taken r ≡ true → is_leader v.mode ≡ true → v.node.election_won ≡ true
-      → Backs h v.node (Value version config value) r → g ≡ older ++ done → MeetsEach value done → Each (λ w. w.processed ≡ true → IsAmong done w) v.tasks.waiting → Each (Of P.came) v.tasks.waiting
+      → Backs h v.node (Value version config value) r × Renews P v.node (Value version config value) r → g ≡ older ++ done → MeetsEach value done → Each (λ w. w.processed ≡ true → IsAmong done w) v.tasks.waiting → Each (Of P.came) v.tasks.waiting
       → Holds h s P (place (moved s v (Acts (Value version config value) (Answered r))) g)
   holds-value v g older done version config value (Taken sends wins) t l won b e a w c =
-      let p = b refl in
+      let p = b.0 refl in
       record {
         stands = stands-value h s v version config value (Taken sends wins) t l won;
         made = λ m q. record {
@@ -167,6 +187,7 @@ module _ (h : History) (s : Settings) (P : Basis) where
           processed = e;
           had = subst (λ (x : ClusterState). MeetsEach x.value done) (sym p.is_state) a;
           among = w;
+          new = each-map (Of P.came) (λ x. x.processed ≡ true → IsNewFor s P (record { term = v.node.term; version = version }) x) (λ x q u y z. b.1 refl x.conn x.request q) v.tasks.waiting c;
         };
         came = c;
       }

@@ -5,6 +5,7 @@ pub mod Steady
 pub mod Leading
 pub mod Telling
 pub mod Holding
+pub mod InTime
 pub mod Answers
 pub mod Modes
 pub mod GoingOn

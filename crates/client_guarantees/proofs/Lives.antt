@@ -6,16 +6,19 @@ use Rattle.std.proofs.lemmas.List.{append-nil}
 use Rattle.std.proofs.lemmas.List.Elements.{All-nil, All-cons, All-head, All-tail, Contains-append_left, Contains-append_right}
 use Rattle.cluster_state.specs.declared.state.ClusterState.{ClusterState}
 use Rattle.cluster_state.specs.declared.state.StateId.{StateId}
+use Rattle.cluster_state.specs.States.{id_of}
 use Rattle.cluster_state.specs.declared.reply.Answer.TheVariants as answer
 use Rattle.cluster_state.specs.declared.reply.Reply.{Reply}
 use Rattle.cluster_state.specs.declared.reply.Reply.TheVariants as reply
 use Rattle.master_tasks.specs.declared.waiting.Waiting.{Waiting}
 use Rattle.master_tasks.specs.declared.waiting.Outgoing.{Outgoing}
 use Rattle.world_model.specs.declared.acts.Act.{Act}
+use Rattle.world_model.specs.declared.acts.Act.TheVariants.{Bootstrap, StartJoin, TakeJoin, Value, Publish, Response, Commit, Open}
 use Rattle.world_model.specs.declared.acts.ActReply.{ActReply}
+use Rattle.world_model.specs.declared.acts.ActReply.TheVariants.{Taken, Refused, Stopped}
 use Rattle.world_model.specs.declared.acts.Outcome.TheVariants.{Answered}
 use Rattle.world_model.specs.Acts.{NodeHistory, NoActs, Then, is_opening}
-use Rattle.world_model.specs.NodeState.{NodeState, node_state, durable_of}
+use Rattle.world_model.specs.NodeState.{NodeState, node_state, term_of, durable_of}
 use Rattle.world_model.specs.Replies.{reply_at}
 use Rattle.world_model.specs.Histories.{History, node_history}
 use Rattle.world_model.specs.Local.{then_run, OpensWith}
@@ -37,12 +40,13 @@ use Rattle.policy_model.proofs.Faults.{struck-replies}
 use Rattle.client_guarantees.specs.Processed.{processed_of, CameAt, last_id}
 use Rattle.client_guarantees.specs.Replies.{IsTrueReply, RepliesTruly}
 use Rattle.client_guarantees.specs.Laws.{IsRunIn}
+use Rattle.client_guarantees.specs.InTime.{IsPublishedSince, IsAckedInTime}
 use Rattle.client_guarantees.proofs.Running.{begins-run, begins-within, node-within}
-use Rattle.client_guarantees.proofs.Backing.{Backs, backs, unique}
-use Rattle.client_guarantees.proofs.Telling.{processed_after, processed_after_all, Up, ReplyIsTrue, place, AllTrue, AreBacked, Ends, Keeps}
+use Rattle.client_guarantees.proofs.Backing.{Backs, backs, unique, value_published}
+use Rattle.client_guarantees.proofs.Telling.{Renews, processed_after, processed_after_all, Up, ReplyIsTrue, place, AllTrue, AreBacked, Ends, Keeps}
 use Rattle.client_guarantees.proofs.Holding.{Holds, holds-idle, holds-more}
 use Rattle.client_guarantees.proofs.Queued.{processed_was_queued}
-use Rattle.client_guarantees.proofs.Newest.{up-same, up-trans, up-act, quiet_acts, low_of, basis, CameOver, came_over}
+use Rattle.client_guarantees.proofs.Newest.{up-same, up-trans, up-act, quiet_acts, low_of, begun_of, basis, came_in, since_later, CameOver, came_over}
 use Rattle.client_guarantees.proofs.Rules.{keeps-next}
 
 -- the acts before an item begin those with it
@@ -59,6 +63,15 @@ begins_item l (Notes note) = begins_self (acts_of l)
 begins_added : (l : Log) (is : List Item) → IsBeginning (acts_of l) (acts_of (added l is))
 begins_added l [] = begins_self (acts_of l)
 begins_added l (i ∷ is) = begins_trans (acts_of l) (acts_of (And l i)) (acts_of (added (And l i) is)) (begins_item l i) (begins_added (And l i) is)
+
+begun_before : (life : Life) → IsBeginning (acts_of (begun_of life)) (acts_of (log_of life))
+begun_before NotBegun = begins_self (acts_of (log_of NotBegun))
+begun_before (Opened life found) = begins_self (acts_of (log_of (Opened life found)))
+begun_before (Lived life (Did event items)) = begins_added (And (log_of life) (Begins event)) items
+begun_before (Lived life (Gone conn)) = begun_before life
+begun_before (Lived life (Bad conn fault)) = begun_before life
+begun_before (Lived life NoMemory) = begun_before life
+begun_before (Lived life (Unread conn)) = begun_before life
 
 -- what was processed over one more item
 processed-And : (s : Settings) (l : Log) (i : Item) → is_own i ≡ true → processed_of s (And l i) ≡ processed_after s (view_of s l) (processed_of s l) i
@@ -101,9 +114,9 @@ processed-added s l (i ∷ is) e =
 
 -- ---- what is true by which requests came and were processed, said of a life
 
-true_at : (h : History) (s : Settings) (life : Life) → Follows s life → (conn : ℕ) (r : Reply) → ReplyIsTrue h (basis life) (processed_of s (log_of life)) conn r → IsTrueReply h s life conn r
-true_at h s life f conn (reply.BadLine fault) t = tt
-true_at h s life f conn (reply.To number (answer.Acked id)) t = record {
+true_at : (h : History) (s : Settings) (g : NodeHistory) (life : Life) → Follows s life → (conn : ℕ) (r : Reply) → ReplyIsTrue h s (basis h s g life) (processed_of s (log_of life)) conn r → IsTrueReply h s life conn r
+true_at h s g life f conn (reply.BadLine fault) t = tt
+true_at h s g life f conn (reply.To number (answer.Acked id)) t = record {
   request = t.request;
   has_conn = t.has_conn;
   has_number = t.has_number;
@@ -128,24 +141,42 @@ true_at h s life f conn (reply.To number (answer.Acked id)) t = record {
 
     over : CameOver life t.request.conn t.request.request
     over = came_over s life f t.request.conn t.request.request (processed_was_queued s (log_of life) t.request is_in)
-true_at h s life f conn (reply.To number (answer.State state)) t =
-    record { request = t.request; has_number = t.has_number; is_asked = t.is_asked; came = t.came; committed = t.committed }
-true_at h s life f conn (reply.To number (answer.NotMaster leader)) t = tt
-true_at h s life f conn (reply.To number (answer.BadSetting length)) t = tt
-true_at h s life f conn (reply.To number (answer.QueueFull count)) t = tt
-true_at h s life f conn (reply.To number (answer.TooManySettings count)) t = tt
-true_at h s life f conn (reply.To number (answer.TooManyExclusions count)) t = tt
-true_at h s life f conn (reply.To number (answer.StillMember id)) t = tt
-true_at h s life f conn (reply.To number (answer.FailedToCommit term)) t = tt
-true_at h s life f conn (reply.To number (answer.ExclusionTimeout ids)) t = tt
+true_at h s g life f conn (reply.To number (answer.State state)) t =
+    record { request = t.request; has_number = t.has_number; is_asked = t.is_asked; came = came_in life conn t.request t.came.so_far t.came.came; committed = t.committed }
+true_at h s g life f conn (reply.To number (answer.NotMaster leader)) t = tt
+true_at h s g life f conn (reply.To number (answer.BadSetting length)) t = tt
+true_at h s g life f conn (reply.To number (answer.QueueFull count)) t = tt
+true_at h s g life f conn (reply.To number (answer.TooManySettings count)) t = tt
+true_at h s g life f conn (reply.To number (answer.TooManyExclusions count)) t = tt
+true_at h s g life f conn (reply.To number (answer.StillMember id)) t = tt
+true_at h s g life f conn (reply.To number (answer.FailedToCommit term)) t = tt
+true_at h s g life f conn (reply.To number (answer.ExclusionTimeout ids)) t = tt
 
-all_true_at : (h : History) (s : Settings) (life : Life) → Follows s life → (outs : List Outgoing) → AllTrue h (basis life) (processed_of s (log_of life)) outs
+each_at : (h : History) (s : Settings) (g : NodeHistory) (life : Life) (T : Outgoing → Type 0) → ((out : Outgoing) → ReplyIsTrue h s (basis h s g life) (processed_of s (log_of life)) out.conn out.reply → T out)
+    → (outs : List Outgoing) → AllTrue h s (basis h s g life) (processed_of s (log_of life)) outs → All T outs
+each_at h s g life T f [] t = All-nil T
+each_at h s g life T f (out ∷ outs) t =
+    let P : Outgoing → Type 0 = λ x. ReplyIsTrue h s (basis h s g life) (processed_of s (log_of life)) x.conn x.reply in
+    All-cons T out outs (f out (All-head P out outs t.all)) (each_at h s g life T f outs (record { all = All-tail P out outs t.all }))
+
+all_true_at : (h : History) (s : Settings) (g : NodeHistory) (life : Life) → Follows s life → (outs : List Outgoing) → AllTrue h s (basis h s g life) (processed_of s (log_of life)) outs
     → All (λ (out : Outgoing). IsTrueReply h s life out.conn out.reply) outs
-all_true_at h s life f [] t = All-nil (λ (out : Outgoing). IsTrueReply h s life out.conn out.reply)
-all_true_at h s life f (out ∷ outs) t =
-    let P : Outgoing → Type 0 = λ x. ReplyIsTrue h (basis life) (processed_of s (log_of life)) x.conn x.reply in
-    All-cons (λ (x : Outgoing). IsTrueReply h s life x.conn x.reply) out outs (true_at h s life f out.conn out.reply (All-head P out outs t.all))
-    (all_true_at h s life f outs (record { all = All-tail P out outs t.all }))
+all_true_at h s g life f = each_at h s g life (λ (out : Outgoing). IsTrueReply h s life out.conn out.reply) (λ out. true_at h s g life f out.conn out.reply)
+
+-- an ack by the second profile
+abbrev pub InTime : History → Settings → NodeHistory → Life → Outgoing → Type 0
+InTime h s g life out = (number : ℕ) (id : StateId) → out.reply ≡ reply.To number (answer.Acked id) → IsAckedInTime h s g life out.conn number id
+
+in_time_at : (h : History) (s : Settings) (g : NodeHistory) (life : Life) → Follows s life → s.policy.second ≡ true
+    → (out : Outgoing) → ReplyIsTrue h s (basis h s g life) (processed_of s (log_of life)) out.conn out.reply → InTime h s g life out
+unfolding true_at
+in_time_at h s g life f second out t number id e = from (subst (ReplyIsTrue h s (basis h s g life) (processed_of s (log_of life)) out.conn) e t)
+  where
+    from : ReplyIsTrue h s (basis h s g life) (processed_of s (log_of life)) out.conn (reply.To number (answer.Acked id)) → IsAckedInTime h s g life out.conn number id
+    from k = record {
+      ack = true_at h s g life f out.conn (reply.To number (answer.Acked id)) k;
+      since = λ w. subst (λ (c : ℕ). IsPublishedSince h s g life c k.request.request id) k.has_conn (k.is_new second w);
+    }
 
 -- a run of the node, what it did before the run, and what the history has of it
 module _ (h : History) (root : ClusterState) (W : IsSystem (node_history h) root) (s : Settings) (g r : NodeHistory)
@@ -155,9 +186,37 @@ module _ (h : History) (root : ClusterState) (W : IsSystem (node_history h) root
       let whole = begins_trans (then_run g (Then p act (Answered reply))) (then_run g r) (node_history h s.me) (begins-within g (Then p act (Answered reply)) r b) is_in in
       subst (λ (n : NodeState). Backs h n act reply) (node-within g r p act (Answered reply) opens closed b) (backs h root W s.me (then_run g p) act reply whole)
 
-  -- how much the node had published as the event began
-  module _ (low : StateId) where
-    quietly : (v : View) (i : Item) (is : List Item) → is_quiet i ≡ true → Up low (last_id v.node) → AreBacked h s low (moved s v i) is → AreBacked h s low v (i ∷ is)
+  -- a value is published after who came, where the node had done at least what it had as the event began
+  renews : (now : Life) (p : NodeHistory) (act : Act) (reply : ActReply) → IsBeginning (acts_of (begun_of now)) p → IsBeginning (Then p act (Answered reply)) r → Renews (basis h s g now) (node_state p) act reply
+  renews now p (Value version config value) (Taken sends w) k b = λ t conn request came.
+      let whole = begins_trans (then_run g (Then p (Value version config value) (Answered (Taken sends w)))) (then_run g r) (node_history h s.me) (begins-within g (Then p (Value version config value) (Answered (Taken sends w))) r b) is_in in
+      let a = value_published h root W s.me (then_run g p) version config value sends w whole in
+      let term : term_of (then_run g p) ≡ term_of p = ap (λ (n : NodeState). n.term) (node-within g r p (Value version config value) (Answered (Taken sends w)) opens refl b) in
+      let id : id_of a.as_published.state ≡ record { term = term_of p; version = version } = ap id_of a.is_state ∙ ap (λ (x : ℕ). record { term = x; version = version }) term in
+      record {
+        so_far = came.so_far;
+        came = came.came;
+        as_published = a.as_published;
+        is_in = a.is_in;
+        publisher = a.publisher;
+        is_id = id;
+        not_yet = λ q m o c same.
+            let low : IsBeginning (then_run g (acts_of (log_of came.so_far))) (then_run g p) = begins-within g (acts_of (log_of came.so_far)) p (begins_trans (acts_of (log_of came.so_far)) (acts_of (begun_of now)) p came.begins k) in
+            a.not_yet q m.part (subst (λ (x : NodeHistory). IsBeginning x (then_run g p)) (sym m.acts) low) o c (same ∙ sym (ap (λ (x : ℕ). record { term = x; version = version }) term));
+      }
+  renews now p (Value version config value) (Refused c) k b = λ t. absurd (true≢false (sym t))
+  renews now p (Value version config value) Stopped k b = λ t. absurd (true≢false (sym t))
+  renews now p (Bootstrap config) reply k b = tt
+  renews now p (StartJoin candidate term) reply k b = tt
+  renews now p (TakeJoin join) reply k b = tt
+  renews now p (Publish request) reply k b = tt
+  renews now p (Response response) reply k b = tt
+  renews now p (Commit commit) reply k b = tt
+  renews now p (Open found) reply k b = tt
+
+  -- the event that comes last
+  module _ (now : Life) where
+    quietly : (v : View) (i : Item) (is : List Item) → is_quiet i ≡ true → Up (low_of now) (last_id v.node) → AreBacked h s (basis h s g now) (moved s v i) is → AreBacked h s (basis h s g now) v (i ∷ is)
     quietly v (Opens found) is e u a = cc
     quietly v (Begins event) is e u a = cc
     quietly v (Acts act o) is e u a = cc
@@ -168,31 +227,33 @@ module _ (h : History) (root : ClusterState) (W : IsSystem (node_history h) root
     quietly v (Notes note) is e u a = (tt, a)
 
     -- the history backs the acts of a part of what the node does, which stand in its log
-    backed : (l : Log) (v : View) (xs prefix rest : List Item) → IsAnswered s v xs → xs ≡ prefix ++ rest → v ≡ view_of s l → Up low (last_id (node_of l)) → IsBeginning (acts_of (added l prefix)) r → AreBacked h s low v prefix
-    backed l v xs [] rest a same e u b = tt
-    backed l v xs (f ∷ fs) rest (Ended w) same e u b = absurd (cc)
-    backed l v xs (f ∷ fs) rest (ByAct w act is o a) same e u b =
+    backed : (l : Log) (v : View) (xs prefix rest : List Item) → IsAnswered s v xs → xs ≡ prefix ++ rest → v ≡ view_of s l → Up (low_of now) (last_id (node_of l)) → IsBeginning (acts_of (begun_of now)) (acts_of l) → IsBeginning (acts_of (added l prefix)) r → AreBacked h s (basis h s g now) v prefix
+    backed l v xs [] rest a same e u k b = tt
+    backed l v xs (f ∷ fs) rest (Ended w) same e u k b = absurd (cc)
+    backed l v xs (f ∷ fs) rest (ByAct w act is o a) same e u k b =
         let i : Item = Acts act (Answered (reply_at s.me w.node act)) in
         let own : is_own i ≡ true = rw o refl in
         let head : Acts act (Answered (reply_at s.me w.node act)) ≡ f = cc in
         let tail : is ≡ fs ++ rest = cc in
         let all : IsBeginning (acts_of (added (And l i) fs)) r = subst (λ (x : Item). IsBeginning (acts_of (added (And l x) fs)) r) (sym head) b in
         let here = begins_trans (acts_of (And l i)) (acts_of (added (And l i) fs)) r (begins_added (And l i) fs) all in
-        let up : Up low (last_id (node_of (And l i))) = up-trans low (last_id (node_of l)) (last_id (node_of (And l i))) u (up-act s.me (acts_of l) act (reply_at s.me w.node act) o (ap (λ (x : View). reply_at s.me x.node act) e)) in
-        subst (λ (x : Item). AreBacked h s low v (x ∷ fs)) head (
-          subst (λ (x : View). Backs h x.node act (reply_at s.me w.node act)) (sym e) (backs-within (acts_of l) act (reply_at s.me w.node act) o here),
-          backed (And l i) (moved s w i) is fs rest a tail (ap (λ (x : View). moved s x i) e ∙ sym (view_of-And s l i own)) up all,
+        let up : Up (low_of now) (last_id (node_of (And l i))) = up-trans (low_of now) (last_id (node_of l)) (last_id (node_of (And l i))) u (up-act s.me (acts_of l) act (reply_at s.me w.node act) o (ap (λ (x : View). reply_at s.me x.node act) e)) in
+        subst (λ (x : Item). AreBacked h s (basis h s g now) v (x ∷ fs)) head (
+          subst (λ (x : View). Backs h x.node act (reply_at s.me w.node act) × Renews (basis h s g now) x.node act (reply_at s.me w.node act)) (sym e)
+              (backs-within (acts_of l) act (reply_at s.me w.node act) o here, renews now (acts_of l) act (reply_at s.me w.node act) k here),
+          backed (And l i) (moved s w i) is fs rest a tail (ap (λ (x : View). moved s x i) e ∙ sym (view_of-And s l i own)) up (begins_trans (acts_of (begun_of now)) (acts_of l) (acts_of (And l i)) k (begins_item l i)) all,
         )
-    backed l v xs (f ∷ fs) rest (ByQuiet w i is q a) same e u b =
+    backed l v xs (f ∷ fs) rest (ByQuiet w i is q a) same e u k b =
         let head : i ≡ f = cc in
         let tail : is ≡ fs ++ rest = cc in
         let all : IsBeginning (acts_of (added (And l i) fs)) r = subst (λ (x : Item). IsBeginning (acts_of (added (And l x) fs)) r) (sym head) b in
-        subst (λ (x : Item). AreBacked h s low v (x ∷ fs)) head
-        (quietly w i fs q (subst (λ (x : View). Up low (last_id x.node)) (sym e) u)
-        (backed (And l i) (moved s w i) is fs rest a tail (ap (λ (x : View). moved s x i) e ∙ sym (view_of-And s l i (own-quiet i q))) (subst (λ (g : NodeHistory). Up low (last_id (node_state g))) (sym (quiet_acts l i q)) u) all))
+        subst (λ (x : Item). AreBacked h s (basis h s g now) v (x ∷ fs)) head
+        (quietly w i fs q (subst (λ (x : View). Up (low_of now) (last_id x.node)) (sym e) u)
+        (backed (And l i) (moved s w i) is fs rest a tail (ap (λ (x : View). moved s x i) e ∙ sym (view_of-And s l i (own-quiet i q))) (subst (λ (g : NodeHistory). Up (low_of now) (last_id (node_state g))) (sym (quiet_acts l i q)) u)
+        (begins_trans (acts_of (begun_of now)) (acts_of l) (acts_of (And l i)) k (begins_item l i)) all))
 
   abbrev Stood : Life → Type 0
-  Stood life = Holds h s (basis life) (place (view_of s (log_of life)) (processed_of s (log_of life)))
+  Stood life = Holds h s (basis h s g life) (place (view_of s (log_of life)) (processed_of s (log_of life)))
 
   pub record Told (life : Life) : Type 0 where
     pub tells : RepliesTruly h s life
@@ -200,12 +261,13 @@ module _ (h : History) (root : ClusterState) (W : IsSystem (node_history h) root
 
   -- what an event tells that does as the rules say
   keeps-event : (life : Life) (e : Event) → Follows s (Lived life (Did e (items_of s (log_of life) e))) → Told life
-      → Keeps h s (basis (Lived life (Did e (items_of s (log_of life) e)))) (view_of s (And (log_of life) (Begins e))) (processed_of s (log_of life)) (items_of s (log_of life) e) (Holds h s (basis (Lived life (Did e (items_of s (log_of life) e)))))
+      → Keeps h s (basis h s g (Lived life (Did e (items_of s (log_of life) e)))) (view_of s (And (log_of life) (Begins e))) (processed_of s (log_of life)) (items_of s (log_of life) e) (Holds h s (basis h s g (Lived life (Did e (items_of s (log_of life) e)))))
   keeps-event life e f t =
       let now = Lived life (Did e (items_of s (log_of life) e)) in
-      let before : Holds h s (basis (Lived life (Did e (items_of s (log_of life) e)))) (place (view_of s (And (log_of life) (Begins e))) (processed_of s (log_of life))) =
-      holds-more h s (basis (Lived life (Did e (items_of s (log_of life) e)))) (basis life) (λ c r k. inr k) (place (view_of s (And (log_of life) (Begins e))) (processed_of s (log_of life))) (t.stands f.1.up) in
-      keeps-next h (unique h root W) s (basis now) (view_of s (And (log_of life) (Begins e))) (processed_of s (log_of life)) e (λ c r k. inl k) before
+      let before : Holds h s (basis h s g (Lived life (Did e (items_of s (log_of life) e)))) (place (view_of s (And (log_of life) (Begins e))) (processed_of s (log_of life))) =
+      holds-more h s (basis h s g (Lived life (Did e (items_of s (log_of life) e)))) (basis h s g life) (λ c r k. record { so_far = k.so_far; came = inr k.came; begins = begins_trans (acts_of (log_of k.so_far)) (acts_of (begun_of life)) (acts_of (log_of life)) k.begins (begun_before life) })
+      (λ c r id k. since_later h s g life now c r id (λ so_far a. inr a) k) (place (view_of s (And (log_of life) (Begins e))) (processed_of s (log_of life))) (t.stands f.1.up) in
+      keeps-next h (unique h root W) s (basis h s g now) (view_of s (And (log_of life) (Begins e))) (processed_of s (log_of life)) e (λ c r k. record { so_far = life; came = inl (k, refl); begins = begins_self (acts_of (log_of life)) }) before
 
   -- the replies of a part of it are true, where the history has the acts of this part
   pub part_true : (life : Life) (e : Event) (prefix rest : List Item) → Follows s (Lived life (Did e (items_of s (log_of life) e))) → Told life → items_of s (log_of life) e ≡ prefix ++ rest
@@ -214,12 +276,32 @@ module _ (h : History) (root : ClusterState) (W : IsSystem (node_history h) root
       let log = And (log_of life) (Begins e) in
       let v = view_of s (And (log_of life) (Begins e)) in
       let items = items_of s (log_of life) e in
-      let told : AllTrue h (basis (Lived life (Did e (items_of s (log_of life) e)))) (processed_after_all s (view_of s (And (log_of life) (Begins e))) (processed_of s (log_of life)) (items_of s (log_of life) e)) (replies_of prefix) =
-      (keeps-event life e f t).within prefix rest whole (backed (last_id (node_of (log_of life))) log v items prefix rest (answered-next s v e) whole refl (up-same (last_id (node_of (log_of life)))) b) in
+      let told : AllTrue h s (basis h s g (Lived life (Did e (items_of s (log_of life) e)))) (processed_after_all s (view_of s (And (log_of life) (Begins e))) (processed_of s (log_of life)) (items_of s (log_of life) e)) (replies_of prefix) =
+      (keeps-event life e f t).within prefix rest whole (backed (Lived life (Did e (items_of s (log_of life) e))) log v items prefix rest (answered-next s v e) whole refl (up-same (last_id (node_of (log_of life)))) (begins_self (acts_of (log_of life))) b) in
       let processed : processed_of s (added (And (log_of life) (Begins e)) (items_of s (log_of life) e)) ≡ processed_after_all s (view_of s (And (log_of life) (Begins e))) (processed_of s (log_of life)) (items_of s (log_of life) e) = processed-added s log items (own-answered s v items (answered-next s v e)) in
-      all_true_at h s (Lived life (Did e (items_of s (log_of life) e))) f (replies_of prefix) (subst (λ (g : List Waiting). AllTrue h (basis (Lived life (Did e (items_of s (log_of life) e)))) g (replies_of prefix)) (sym processed) told)
+      all_true_at h s g (Lived life (Did e (items_of s (log_of life) e))) f (replies_of prefix) (subst (λ (k : List Waiting). AllTrue h s (basis h s g (Lived life (Did e (items_of s (log_of life) e)))) k (replies_of prefix)) (sym processed) told)
 
   -- an event that does as the rules say
+  event_ends : (life : Life) (e : Event) → Follows s (Lived life (Did e (items_of s (log_of life) e))) → Told life
+      → IsBeginning (acts_of (log_of (Lived life (Did e (items_of s (log_of life) e))))) r
+      → Ends h s (basis h s g (Lived life (Did e (items_of s (log_of life) e)))) (view_of s (And (log_of life) (Begins e))) (processed_of s (log_of life)) (items_of s (log_of life) e) (Holds h s (basis h s g (Lived life (Did e (items_of s (log_of life) e)))))
+  event_ends life e f t b =
+      let log = And (log_of life) (Begins e) in
+      let v = view_of s (And (log_of life) (Begins e)) in
+      let items = items_of s (log_of life) e in
+      (keeps-event life e f t).ends (backed (Lived life (Did e (items_of s (log_of life) e))) log v items items [] (answered-next s v e) (sym (append-nil items)) refl (up-same (last_id (node_of (log_of life)))) (begins_self (acts_of (log_of life))) b)
+
+  processed_by_event : (life : Life) (e : Event) → processed_of s (added (And (log_of life) (Begins e)) (items_of s (log_of life) e)) ≡ processed_after_all s (view_of s (And (log_of life) (Begins e))) (processed_of s (log_of life)) (items_of s (log_of life) e)
+  processed_by_event life e =
+      let v = view_of s (And (log_of life) (Begins e)) in
+      processed-added s (And (log_of life) (Begins e)) (items_of s (log_of life) e) (own-answered s v (items_of s (log_of life) e) (answered-next s v e))
+
+  event_true : (life : Life) (e : Event) → Follows s (Lived life (Did e (items_of s (log_of life) e))) → Told life
+      → IsBeginning (acts_of (log_of (Lived life (Did e (items_of s (log_of life) e))))) r
+      → AllTrue h s (basis h s g (Lived life (Did e (items_of s (log_of life) e)))) (processed_of s (log_of (Lived life (Did e (items_of s (log_of life) e))))) (replies_of (items_of s (log_of life) e))
+  event_true life e f t b =
+      subst (λ (k : List Waiting). AllTrue h s (basis h s g (Lived life (Did e (items_of s (log_of life) e)))) k (replies_of (items_of s (log_of life) e))) (sym (processed_by_event life e)) (event_ends life e f t b).told
+
   as_it_does : (life : Life) (e : Event) → Follows s (Lived life (Did e (items_of s (log_of life) e))) → Told life
       → IsBeginning (acts_of (log_of (Lived life (Did e (items_of s (log_of life) e))))) r → Told (Lived life (Did e (items_of s (log_of life) e)))
   as_it_does life e f t b =
@@ -227,16 +309,26 @@ module _ (h : History) (root : ClusterState) (W : IsSystem (node_history h) root
       let v = view_of s (And (log_of life) (Begins e)) in
       let items = items_of s (log_of life) e in
       let now = Lived life (Did e (items_of s (log_of life) e)) in
-      let ends : Ends h s (basis (Lived life (Did e (items_of s (log_of life) e)))) (view_of s (And (log_of life) (Begins e))) (processed_of s (log_of life)) (items_of s (log_of life) e) (Holds h s (basis (Lived life (Did e (items_of s (log_of life) e))))) =
-      (keeps-event life e f t).ends (backed (last_id (node_of (log_of life))) log v items items [] (answered-next s v e) (sym (append-nil items)) refl (up-same (last_id (node_of (log_of life)))) b) in
       let own = own-answered s v items (answered-next s v e) in
-      let processed : processed_of s (added (And (log_of life) (Begins e)) (items_of s (log_of life) e)) ≡ processed_after_all s (view_of s (And (log_of life) (Begins e))) (processed_of s (log_of life)) (items_of s (log_of life) e) = processed-added s log items own in
       record {
-        tells = (t.tells, all_true_at h s now f (replies_of items) (subst (λ (g : List Waiting). AllTrue h (basis (Lived life (Did e (items_of s (log_of life) e)))) g (replies_of (items_of s (log_of life) e))) (sym processed) ends.told));
+        tells = (t.tells, all_true_at h s g now f (replies_of items) (event_true life e f t b));
         stands = λ u.
-            subst (λ (w : View). Holds h s (basis (Lived life (Did e (items_of s (log_of life) e)))) (place w (processed_of s (added (And (log_of life) (Begins e)) (items_of s (log_of life) e))))) (sym (view_of-added s log items own))
-            (subst (λ (g : List Waiting). Holds h s (basis (Lived life (Did e (items_of s (log_of life) e)))) (place (moved_all s (view_of s (And (log_of life) (Begins e))) (items_of s (log_of life) e)) g)) (sym processed) ends.stands);
+            subst (λ (w : View). Holds h s (basis h s g (Lived life (Did e (items_of s (log_of life) e)))) (place w (processed_of s (added (And (log_of life) (Begins e)) (items_of s (log_of life) e))))) (sym (view_of-added s log items own))
+            (subst (λ (k : List Waiting). Holds h s (basis h s g (Lived life (Did e (items_of s (log_of life) e)))) (place (moved_all s (view_of s (And (log_of life) (Begins e))) (items_of s (log_of life) e)) k)) (sym (processed_by_event life e)) (event_ends life e f t b).stands);
       }
+
+  -- an event's acks, by the second profile
+  event_in_time : (life : Life) (e : Event) (is : List Item) → s.policy.second ≡ true → Follows s (Lived life (Did e is)) → Told life → IsBeginning (acts_of (log_of (Lived life (Did e is)))) r → All (InTime h s g (Lived life (Did e is))) (replies_of is)
+  event_in_time life e is second f t b = by_way f.1.does
+    where
+      by_way : (is ≡ items_of s (log_of life) e) ⊎ IsStruck (items_of s (log_of life) e) is → All (InTime h s g (Lived life (Did e is))) (replies_of is)
+      by_way (inl same) =
+          let now = Lived life (Did e (items_of s (log_of life) e)) in
+          let follows : Follows s (Lived life (Did e (items_of s (log_of life) e))) = subst (λ (x : List Item). Follows s (Lived life (Did e x))) same f in
+          subst (λ (x : List Item). All (InTime h s g (Lived life (Did e x))) (replies_of x)) (sym same)
+          (each_at h s g now (InTime h s g now) (in_time_at h s g now follows second) (replies_of (items_of s (log_of life) e))
+          (event_true life e follows t (subst (λ (x : List Item). IsBeginning (acts_of (added (And (log_of life) (Begins e)) x)) r) same b)))
+      by_way (inr struck) = subst (All (InTime h s g (Lived life (Did e is)))) (sym (struck-replies (items_of s (log_of life) e) is struck)) (All-nil (InTime h s g (Lived life (Did e is))))
 
   told_event : (life : Life) (e : Event) (is : List Item) → Follows s (Lived life (Did e is)) → Told life → IsBeginning (acts_of (log_of (Lived life (Did e is)))) r → Told (Lived life (Did e is))
   told_event life e is f t b = by_way f.1.does
@@ -252,17 +344,17 @@ module _ (h : History) (root : ClusterState) (W : IsSystem (node_history h) root
       }
 
   told : (life : Life) → Follows s life → IsBeginning (acts_of (log_of life)) r → Told life
-  told NotBegun f b = record { tells = tt; stands = λ u. holds-idle h s (basis NotBegun) _ refl refl refl }
+  told NotBegun f b = record { tells = tt; stands = λ u. holds-idle h s (basis h s g NotBegun) _ refl refl refl }
   told (Opened life found) f b =
       let t = told life f.0 (begins_trans (acts_of (log_of life)) (acts_of (log_of (Opened life found))) r (begins_item (log_of life) (Opens found)) b) in
-      record { tells = t.tells; stands = λ u. holds-idle h s (basis (Opened life found)) _ refl refl refl }
+      record { tells = t.tells; stands = λ u. holds-idle h s (basis h s g (Opened life found)) _ refl refl refl }
   told (Lived life (Did e is)) f b =
       let before = begins_trans (acts_of (log_of life)) (acts_of (log_of (Lived life (Did e is)))) r (begins_added (And (log_of life) (Begins e)) is) b in
       told_event life e is f (told life f.0 before) b
-  told (Lived life (Gone conn)) f b = let t = told life f.0 b in record { tells = t.tells; stands = λ u. holds-more h s (basis (Lived life (Gone conn))) (basis life) (λ c r k. k) _ (t.stands u) }
-  told (Lived life (Bad conn fault)) f b = let t = told life f.0 b in record { tells = t.tells; stands = λ u. holds-more h s (basis (Lived life (Bad conn fault))) (basis life) (λ c r k. k) _ (t.stands u) }
-  told (Lived life NoMemory) f b = let t = told life f.0 b in record { tells = t.tells; stands = λ u. holds-more h s (basis (Lived life NoMemory)) (basis life) (λ c r k. k) _ (t.stands u) }
-  told (Lived life (Unread conn)) f b = let t = told life f.0 b in record { tells = t.tells; stands = λ u. holds-more h s (basis (Lived life (Unread conn))) (basis life) (λ c r k. k) _ (t.stands u) }
+  told (Lived life (Gone conn)) f b = let t = told life f.0 b in record { tells = t.tells; stands = λ u. holds-more h s (basis h s g (Lived life (Gone conn))) (basis h s g life) (λ c r k. record { so_far = k.so_far; came = k.came; begins = k.begins }) (λ c r id k. since_later h s g life _ c r id (λ so_far a. a) k) _ (t.stands u) }
+  told (Lived life (Bad conn fault)) f b = let t = told life f.0 b in record { tells = t.tells; stands = λ u. holds-more h s (basis h s g (Lived life (Bad conn fault))) (basis h s g life) (λ c r k. record { so_far = k.so_far; came = k.came; begins = k.begins }) (λ c r id k. since_later h s g life _ c r id (λ so_far a. a) k) _ (t.stands u) }
+  told (Lived life NoMemory) f b = let t = told life f.0 b in record { tells = t.tells; stands = λ u. holds-more h s (basis h s g (Lived life NoMemory)) (basis h s g life) (λ c r k. record { so_far = k.so_far; came = k.came; begins = k.begins }) (λ c r id k. since_later h s g life _ c r id (λ so_far a. a) k) _ (t.stands u) }
+  told (Lived life (Unread conn)) f b = let t = told life f.0 b in record { tells = t.tells; stands = λ u. holds-more h s (basis h s g (Lived life (Unread conn))) (basis h s g life) (λ c r k. record { so_far = k.so_far; came = k.came; begins = k.begins }) (λ c r id k. since_later h s g life _ c r id (λ so_far a. a) k) _ (t.stands u) }
 
 -- A run was killed within an event. The replies of a part of it are true, where the history has the acts of this part.
 pub part_replies_true : (h : History) (root : ClusterState) → IsSystem (node_history h) root → (s : Settings) (g r : NodeHistory) → (g ≢ NoActs → OpensWith (durable_of g) r) → IsBeginning (then_run g r) (node_history h s.me)
@@ -276,3 +368,12 @@ pub replies_true : (h : History) (root : ClusterState) → IsSystem (node_histor
 replies_true h root W s life is =
     let r : NodeHistory = acts_of (log_of life) in
     (told h root W s is.before r is.begins (subst (IsBeginning (then_run is.before r)) (sym is.acts) (begins-run (then_run is.before r) is.after)) life is.follows (begins_self r)).tells
+
+-- each ack of the last event of a run, by the second profile
+pub acks_in_time : (h : History) (root : ClusterState) → IsSystem (node_history h) root → (s : Settings) → s.policy.second ≡ true → (life : Life) (e : Event) (is : List Item) (run : IsRunIn h s (Lived life (Did e is)))
+    → All (InTime h s run.before (Lived life (Did e is))) (replies_of is)
+acks_in_time h root W s second life e is run =
+    let r : NodeHistory = acts_of (log_of (Lived life (Did e is))) in
+    let is_in : IsBeginning (then_run run.before r) (node_history h s.me) = subst (IsBeginning (then_run run.before r)) (sym run.acts) (begins-run (then_run run.before r) run.after) in
+    let before = begins_added (And (log_of life) (Begins e)) is in
+    event_in_time h root W s run.before r run.begins is_in life e is second run.follows (told h root W s run.before r run.begins is_in life run.follows.0 before) (begins_self r)

@@ -38,7 +38,7 @@ module _ (h : History) (s : Settings) (P : Basis) where
   keeps-candidate v g Q q = by (doing.is_leader v.mode)
     where
       by : (b : Bool) → Keeps h s P v g ((if b then doing.reply_all s (answers_by (failed v.leader_term) v.tasks.waiting) else []) ++ ChangesMode Candidate v.node.term ∷ []) Q
-      by true = keeps-answers h s P v g _ (ChangesMode Candidate v.node.term ∷ []) Q (λ r. true-failed h P g v.leader_term v.tasks.waiting) (keeps-turned v g Q q)
+      by true = keeps-answers h s P v g _ (ChangesMode Candidate v.node.term ∷ []) Q (λ r. true-failed h s P g v.leader_term v.tasks.waiting) (keeps-turned v g Q q)
       by false = keeps-turned v g Q q
 
   pub keeps-becomes_candidate : (v : View) (g : List Waiting) → Keeps h s P v g (doing.becomes_candidate s v) (Holds h s P)

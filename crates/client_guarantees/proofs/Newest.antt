@@ -11,12 +11,14 @@ use Rattle.world_model.specs.declared.acts.ActReply.{ActReply}
 use Rattle.world_model.specs.declared.acts.ActReply.TheVariants.{Taken, Refused, Stopped}
 use Rattle.world_model.specs.declared.acts.Outcome.TheVariants.{Answered}
 use Rattle.world_model.specs.Acts.{NodeHistory, Then, is_opening}
+use Rattle.world_model.specs.Histories.{History}
+use Rattle.world_model.proofs.Moments.{Begins as IsBeginning}
 use Rattle.world_model.specs.NodeState.{NodeState, node_state, term_of, election_won_of}
 use Rattle.world_model.specs.Replies.{reply_at, reply_of}
 use Rattle.world_model.proofs.Guards.{start_guard, join_guard, value_guard}
 use Rattle.policy_model.specs.declared.settings.Settings.{Settings}
 use Rattle.policy_model.specs.declared.events.Event.{Event}
-use Rattle.policy_model.specs.Events.{Item, Log, Opens, Begins, Acts, ChangesMode, Drops, Sends, Replies, Notes, And, added, acts_of}
+use Rattle.policy_model.specs.Events.{Item, Log, NoItems, Opens, Begins, Acts, ChangesMode, Drops, Sends, Replies, Notes, And, added, acts_of}
 use Rattle.policy_model.specs.Entries.{Life, NotBegun, Opened, Lived, Did, Gone, Bad, NoMemory, Unread, log_of}
 use Rattle.policy_model.specs.LookBacks.{node_of}
 use Rattle.policy_model.specs.Views.{View, view_of}
@@ -27,6 +29,7 @@ use Rattle.policy_model.proofs.Answering.{answered-next}
 use Rattle.policy_model.proofs.Standing.{own-quiet}
 use Rattle.policy_model.proofs.Locals.{struck_fault}
 use Rattle.client_guarantees.specs.Processed.{CameBy, CameIn, CameAt, last_id}
+use Rattle.client_guarantees.specs.InTime.{CameAfter, IsPublishedSince}
 use Rattle.client_guarantees.proofs.Telling.{Basis, Up}
 use Rattle.client_guarantees.proofs.Queued.{WasQueued}
 use Rattle.client_guarantees.proofs.Coming.{all_queued, event_fits}
@@ -114,8 +117,45 @@ low_of (Opened life found) = last_id (node_of (log_of (Opened life found)))
 low_of (Lived life (Did event items)) = last_id (node_of (log_of life))
 low_of (Lived life entry) = low_of life
 
-abbrev pub basis : Life → Basis
-basis life = record { came = CameIn life; low = low_of life }
+-- the log as the last event began
+abbrev pub begun_of : Life → Log
+begun_of NotBegun = NoItems
+begun_of (Opened life found) = log_of (Opened life found)
+begun_of (Lived life (Did event items)) = log_of life
+begun_of (Lived life entry) = begun_of life
+
+-- such a line came when this had been the life so far
+pub record CameSince (life : Life) (conn : ℕ) (request : Request) : Type 0 where
+  pub so_far : Life
+  pub came : CameAfter life conn request so_far
+  pub begins : IsBeginning (acts_of (log_of so_far)) (acts_of (begun_of life))
+
+abbrev pub basis : History → Settings → NodeHistory → Life → Basis
+basis h s g life = record { came = CameSince life; low = low_of life; anew = IsPublishedSince h s g life }
+
+pub came_in : (life : Life) (conn : ℕ) (request : Request) (so_far : Life) → CameAfter life conn request so_far → CameIn life conn request
+came_in NotBegun conn request so_far c = absurd c
+came_in (Opened life found) conn request so_far c = absurd c
+came_in (Lived life (Did event items)) conn request so_far (inl c) = inl c.0
+came_in (Lived life (Did event items)) conn request so_far (inr c) = inr (came_in life conn request so_far c)
+came_in (Lived life (Gone n)) conn request so_far c = came_in life conn request so_far c
+came_in (Lived life (Bad n fault)) conn request so_far c = came_in life conn request so_far c
+came_in (Lived life NoMemory) conn request so_far c = came_in life conn request so_far c
+came_in (Lived life (Unread n)) conn request so_far c = came_in life conn request so_far c
+
+-- in a life that goes on
+pub since_later : (h : History) (s : Settings) (g : NodeHistory) (life now : Life) (conn : ℕ) (request : Request) (id : StateId)
+    → ((so_far : Life) → CameAfter life conn request so_far → CameAfter now conn request so_far)
+    → IsPublishedSince h s g life conn request id → IsPublishedSince h s g now conn request id
+since_later h s g life now conn request id f p = record {
+  so_far = p.so_far;
+  came = f p.so_far p.came;
+  as_published = p.as_published;
+  is_in = p.is_in;
+  publisher = p.publisher;
+  is_id = p.is_id;
+  not_yet = p.not_yet;
+}
 
 low-below : (s : Settings) (life : Life) → Follows s life → is_struck life ≡ false → Up (low_of life) (last_id (node_of (log_of life)))
 low-below s NotBegun f u = up-same (last_id (node_of (log_of NotBegun)))

@@ -53,12 +53,12 @@ use Rattle.policy_model.specs.Rules as rules
 use Rattle.policy_model.specs.Disconnects as disconnects
 use Rattle.client_guarantees.specs.Asked.{MeetsEach}
 use Rattle.client_guarantees.specs.Processed.{CameBy, last_id}
-use Rattle.client_guarantees.proofs.Telling.{Basis, Up, place, true-later, grown, keeps-all, Keeps, keeps-none, keeps-append, keeps-then, keeps-if, keeps-item, keeps-steady, keeps-answers, keeps-reply}
+use Rattle.client_guarantees.proofs.Telling.{Basis, Up, IsNewFor, place, true-later, grown, keeps-all, Keeps, keeps-none, keeps-append, keeps-then, keeps-if, keeps-item, keeps-steady, keeps-answers, keeps-reply}
 use Rattle.client_guarantees.proofs.Leading.{IsDone, won-join}
 use Rattle.client_guarantees.proofs.Folding.{Each, each-last, IsAmong, Of}
 use Rattle.client_guarantees.proofs.Holding.{IsMade, Holds, IsReadyToGo, ready-holds, idle-holds, holds-waiting, holds-publish, holds-commit, holds-response, holds-join, each-left}
 use Rattle.client_guarantees.proofs.Steady.{Standing, steady_stands, Calm, Still, steady-if, steady-sends, steady-stands_for_election, steady-waits_for_election, steady-pre_vote_reply, steady-on_pre_vote_answer, steady-asks_peers, steady-checks_followers}
-use Rattle.client_guarantees.proofs.Answers.{left_none, HasDone, true-committed_in, true-exclusion_done, true-timed_out}
+use Rattle.client_guarantees.proofs.Answers.{IsProcessedFor, each-processed, left_none, HasDone, true-committed_in, true-exclusion_done, true-timed_out}
 use Rattle.client_guarantees.proofs.Modes.{keeps-becomes_candidate, keeps-becomes_follower, keeps-on_start_join, keeps-raises_term}
 use Rattle.client_guarantees.proofs.Backing.{HasCommittedId, TakesCommit, IsUnique}
 use Rattle.client_guarantees.proofs.GoingOn.{reached, reached_last, accepted_made, keeps-goes_on, keeps-leads, keeps-takes_member}
@@ -73,8 +73,8 @@ settled_now s v c (Refused x) e = absurd (both_ways _ refl e)
 settled_now s v c Stopped e = absurd (both_ways _ refl e)
 
 -- a request that arrives is not processed
-queued_made : {h : History} (v : View) (g : List Waiting) (w : Waiting) → w.processed ≡ false → IsMade h (place v g) → IsMade h (place (record v { tasks = offered v.tasks w }) g)
-queued_made v g w e m = record {
+queued_made : {h : History} {s : Settings} {P : Basis} (v : View) (g : List Waiting) (w : Waiting) → w.processed ≡ false → IsMade h s P (place v g) → IsMade h s P (place (record v { tasks = offered v.tasks w }) g)
+queued_made {s = s} {P = P} v g w e m = record {
   as_published = m.as_published;
   is_in = m.is_in;
   is_id = m.is_id;
@@ -83,6 +83,7 @@ queued_made v g w e m = record {
   processed = m.processed;
   had = m.had;
   among = each-last (λ x. x.processed ≡ true → IsAmong m.done x) v.tasks.waiting w m.among (λ t. absurd (both_ways _ e t));
+  new = each-last (λ x. x.processed ≡ true → IsNewFor s P (published_id v.node) x) v.tasks.waiting w m.new (λ t. absurd (both_ways _ e t));
 }
 
 module _ (h : History) (U : IsUnique h) (s : Settings) (P : Basis) where
@@ -102,7 +103,7 @@ module _ (h : History) (U : IsUnique h) (s : Settings) (P : Basis) where
       keeps-if h s P v g (has_room v.node.join_votes p) _ [] (Holds h s P)
       (λ f. keeps-item h s P v g (doing.act_now s v act) _ (Holds h s P) refl
       (λ b. keeps-if h s P after g (joins.wins_now (doing.reply_now s v act)) _ _ (Holds h s P)
-      (λ w. keeps-leads h U s P after g (won-join h s v join (doing.reply_now s v act) w b i.stands))
+      (λ w. keeps-leads h U s P after g (won-join h s v join (doing.reply_now s v act) w b.0 i.stands))
       (λ w. keeps-if h s P after g (doing.takes s v act && doing.is_leader after.mode) _ [] (Holds h s P)
       (λ t. keeps-takes_member h U s P after g p (holds-join h s P v g join (doing.reply_now s v act) w i))
       (λ t. nothing after g (holds-join h s P v g join (doing.reply_now s v act) w i)))))
@@ -125,7 +126,7 @@ module _ (h : History) (U : IsUnique h) (s : Settings) (P : Basis) where
       let after = doing.after_act s v act in
       keeps-item h s P v g (doing.act_now s v act) _ (Holds h s P) refl
       (λ b.
-      let k = holds-publish h s P v g (record { source = p; state = state }) (doing.reply_now s v act) b i in
+      let k = holds-publish h s P v g (record { source = p; state = state }) (doing.reply_now s v act) b.0 i in
       keeps-if h s P after g (doing.takes s v act) _ [] (Holds h s P)
       (λ t. keeps-item h s P after g (doing.send s p (message.Response (id_of state))) _ (Holds h s P) refl
       (λ c. keeps-if h s P after g (same p s.me) [] _ (Holds h s P) (λ e. nothing after g k) (λ e. keeps-becomes_follower h s P after g p k)))
@@ -136,7 +137,7 @@ module _ (h : History) (U : IsUnique h) (s : Settings) (P : Basis) where
       keeps-then h s P v g _ (λ u. publications.accepts s u p state) (Holds h s P) (Holds h s P) (keeps-raises_term h s P v g p state.term i) (λ u g k. keeps-accepts u g p state k)
 
   -- the state of the last commit has what was processed
-  sent_done : (v : View) (g : List Waiting) (m : IsMade h (place v g)) → HasCommittedId h (published_id v.node) → Up P.low (published_id v.node) → HasDone h P.low g m.done (published_id v.node)
+  sent_done : (v : View) (g : List Waiting) (m : IsMade h s P (place v g)) → HasCommittedId h (published_id v.node) → Up P.low (published_id v.node) → HasDone h P.low g m.done (published_id v.node)
   sent_done v g m c u =
       let same = U.same m.as_published c.as_published m.is_in c.is_committed.0 (m.is_id ∙ sym c.is_id) in
       record {
@@ -150,7 +151,7 @@ module _ (h : History) (U : IsUnique h) (s : Settings) (P : Basis) where
       }
 
   -- the accepted state has it, where it is the last one
-  accepted_done : (v : View) (g : List Waiting) (m : IsMade h (place v g)) → IsDone h v.node → Up P.low (id_of v.node.accepted) → HasDone h P.low g m.done (id_of v.node.accepted)
+  accepted_done : (v : View) (g : List Waiting) (m : IsMade h s P (place v g)) → IsDone h v.node → Up P.low (id_of v.node.accepted) → HasDone h P.low g m.done (id_of v.node.accepted)
   accepted_done v g m d u = record {
     older = m.older;
     processed = m.processed;
@@ -161,7 +162,7 @@ module _ (h : History) (U : IsUnique h) (s : Settings) (P : Basis) where
     since = u;
   }
 
-  keeps-first_commit : (v : View) (g done : List Waiting) (id : StateId) → v.node.election_won ≡ true → (Up P.low (published_id v.node) → HasDone h P.low g done (published_id v.node)) → Each (λ w. w.processed ≡ true → IsAmong done w) v.tasks.waiting → Holds h s P (place v g)
+  keeps-first_commit : (v : View) (g done : List Waiting) (id : StateId) → v.node.election_won ≡ true → (Up P.low (published_id v.node) → HasDone h P.low g done (published_id v.node)) → Each (IsProcessedFor s P done (published_id v.node)) v.tasks.waiting → Holds h s P (place v g)
       → Keeps h s P v g (publications.sends_first_commit s v id) (Holds h s P)
   keeps-first_commit v g done id won d w i =
       let sends = doing.send_all s (among (next.responders_of v.publication) (next.targets_of v.publication)) (message.Commit id) in
@@ -169,7 +170,7 @@ module _ (h : History) (U : IsUnique h) (s : Settings) (P : Basis) where
       keeps-append h s P v g (sends ++ doing.reply_all s answers) (Notes CommitAcked ∷ []) (Holds h s P) (Holds h s P)
       (keeps-append h s P v g sends (doing.reply_all s answers) (Holds h s P) (Holds h s P) (keeps-steady h s P v g sends (Holds h s P) (steady-sends s _ _) i)
       (λ k. keeps-all h s P _ _ answers (Holds h s P)
-      (λ q. true-later h P g _ answers (grown s v g sends) (true-committed_in h P g done (published_id v.node) (d (reached P.low v won (subst (λ (x : Standing). Up P.low (last_id x.node)) (steady_stands s v sends (steady-sends s _ _)) q))) v.tasks.waiting w)) k))
+      (λ q. true-later h s P g _ answers (grown s v g sends) (true-committed_in h s P g done (published_id v.node) (d (reached P.low v won (subst (λ (x : Standing). Up P.low (last_id x.node)) (steady_stands s v sends (steady-sends s _ _)) q))) v.tasks.waiting w)) k))
       (λ k. keeps-item h s P _ _ (Notes CommitAcked) [] (Holds h s P) refl (λ b. nothing _ _ (holds-waiting h s P _ _ (left_none _ _) (λ P e. each-left P _ _ e) k)))
 
   keeps-on_response : (v : View) (g : List Waiting) (p : Id) (id : StateId) → Holds h s P (place v g) → Keeps h s P v g (publications.on_response s v p id) (Holds h s P)
@@ -177,14 +178,14 @@ module _ (h : History) (U : IsUnique h) (s : Settings) (P : Basis) where
       let act : Act = Response (record { source = p; target = s.me; term = id.term; version = id.version }) in
       let after = doing.after_act s v act in
       let k = holds-response h s P v g (record { source = p; target = s.me; term = id.term; version = id.version }) (doing.reply_now s v act) i in
-      let made : doing.is_leader v.mode && is_some v.publication && has_room v.node.publish_votes p ≡ true → IsMade h (place v g) = λ e. let prefix = and_parts (doing.is_leader v.mode && is_some v.publication) _ e in let parts = and_parts _ _ prefix.0 in i.made parts.0 parts.1 in
+      let made : doing.is_leader v.mode && is_some v.publication && has_room v.node.publish_votes p ≡ true → IsMade h s P (place v g) = λ e. let prefix = and_parts (doing.is_leader v.mode && is_some v.publication) _ e in let parts = and_parts _ _ prefix.0 in i.made parts.0 parts.1 in
       let won : doing.is_leader v.mode && is_some v.publication && has_room v.node.publish_votes p ≡ true → v.node.election_won ≡ true = λ e. let prefix = and_parts (doing.is_leader v.mode && is_some v.publication) _ e in i.stands.leads.won (and_parts _ _ prefix.0).0 in
       keeps-if h s P v g (doing.is_leader v.mode && is_some v.publication && has_room v.node.publish_votes p) _ [] (Holds h s P)
       (λ e. keeps-item h s P v g (doing.act_now s v act) _ (Holds h s P) refl
       (λ b. keeps-if h s P after g (publications.commits_now (doing.reply_now s v act)) _ [] (Holds h s P)
       (λ c. keeps-if h s P after g (publications.is_commit_sent v.publication) _ _ (Holds h s P)
       (λ t. keeps-steady h s P after g _ (Holds h s P) (Still _ _ refl Calm) k)
-      (λ t. keeps-first_commit after g (made e).done id (won e) (sent_done v g (made e) (b c)) (made e).among k))
+      (λ t. keeps-first_commit after g (made e).done id (won e) (sent_done v g (made e) (b.0 c)) (each-processed s P (made e).done (published_id v.node) v.tasks.waiting (made e).among (made e).new) k))
       (λ c. nothing after g k)))
       (λ e. nothing v g i)
 
@@ -198,7 +199,7 @@ module _ (h : History) (U : IsUnique h) (s : Settings) (P : Basis) where
           let m = i.made l (ap is_some n) in
           let d : IsDone h v.node = record { committed = c.committed; last = record { term = c.term; version = c.version (i.stands.leads.won l) }; settled = settled } in
           keeps-answers h s P v g _ (Notes ExclusionsAcked ∷ []) (Holds h s P)
-          (λ q. true-exclusion_done h P g m.done v.node.committed (id_of v.node.accepted) (accepted_done v g m d (reached_last P.low v (i.stands.leads.won l) d.last q)) (settled ∙ sym (ap (λ (x : ClusterState). x.config) d.committed.is_state)) v.tasks.waiting m.among)
+          (λ q. true-exclusion_done h s P g m.done v.node.committed (id_of v.node.accepted) (accepted_done v g m d (reached_last P.low v (i.stands.leads.won l) d.last q)) (settled ∙ sym (ap (λ (x : ClusterState). x.config) d.committed.is_state)) v.tasks.waiting m.among)
           (keeps-item h s P v g (Notes ExclusionsAcked) [] (Holds h s P) refl (λ b. nothing _ g (holds-waiting h s P (place v g) _ (left_none _ _) (λ P e. each-left P _ _ e) i)))
 
   keeps-told_commit : (v : View) (g : List Waiting) (p : Id) (id : StateId) → Holds h s P (place v g) → Keeps h s P v g (publications.on_commit s v p id) (Holds h s P)
@@ -208,12 +209,12 @@ module _ (h : History) (U : IsUnique h) (s : Settings) (P : Basis) where
       let taken : TakesCommit h v.node → TakesCommit h after.node = λ t. record { committed = t.committed; term = t.term; version = t.version } in
       keeps-item h s P v g (doing.act_now s v act) _ (Holds h s P) refl
       (λ b.
-      let k = holds-commit h s P v g (record { source = p; term = id.term; version = id.version }) (doing.reply_now s v act) b i in
+      let k = holds-commit h s P v g (record { source = p; term = id.term; version = id.version }) (doing.reply_now s v act) b.0 i in
       keeps-if h s P after g (doing.takes s v act && doing.is_leader after.mode) _ [] (Holds h s P)
       (λ e.
       let parts = and_parts _ _ e in
       let settled = settled_now s v (record { source = p; term = id.term; version = id.version }) (doing.reply_now s v act) parts.0 in
-      keeps-then h s P after g _ (next.goes_on s) (Holds h s P) (Holds h s P) (keeps-acks_exclusions after g parts.1 (taken (b parts.0)) settled k) go_on)
+      keeps-then h s P after g _ (next.goes_on s) (Holds h s P) (Holds h s P) (keeps-acks_exclusions after g parts.1 (taken (b.0 parts.0)) settled k) go_on)
       (λ e. nothing after g k))
 
   -- discovery
@@ -265,7 +266,7 @@ module _ (h : History) (U : IsUnique h) (s : Settings) (P : Basis) where
   -- requests
   keeps-times_out : (v : View) (g : List Waiting) → Holds h s P (place v g) → Keeps h s P v g (requests.times_out_exclusions s v) (Holds h s P)
   keeps-times_out v g i =
-      keeps-answers h s P v g _ (Notes ExclusionsTimedOut ∷ []) (Holds h s P) (λ q. true-timed_out h P g v.node.committed v.moment v.tasks.waiting)
+      keeps-answers h s P v g _ (Notes ExclusionsTimedOut ∷ []) (Holds h s P) (λ q. true-timed_out h s P g v.node.committed v.moment v.tasks.waiting)
       (keeps-item h s P v g (Notes ExclusionsTimedOut) [] (Holds h s P) refl (λ b. nothing _ g (holds-waiting h s P (place v g) _ (left_none _ _) (λ P e. each-left P _ _ e) i)))
 
   keeps-queues : (v : View) (g : List Waiting) (conn : ℕ) (r : Request) (o : Option ℕ) → doing.is_leader v.mode ≡ true → P.came conn r → Holds h s P (place v g) → Keeps h s P v g (requests.queues s v conn r o) (Holds h s P)

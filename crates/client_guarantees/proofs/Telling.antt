@@ -15,7 +15,13 @@ use Rattle.cluster_state.specs.declared.state.StateId.{StateId}
 use Rattle.cluster_state.specs.States.{id_of}
 use Rattle.master_tasks.specs.declared.waiting.Waiting.{Waiting}
 use Rattle.master_tasks.specs.declared.waiting.Outgoing.{Outgoing}
+use Rattle.master_tasks.specs.NextState.{is_write}
+use Rattle.world_model.specs.declared.acts.Act.{Act}
+use Rattle.world_model.specs.declared.acts.Act.TheVariants.{Value}
+use Rattle.world_model.specs.declared.acts.ActReply.{ActReply}
 use Rattle.world_model.specs.declared.acts.Outcome.TheVariants.{Answered}
+use Rattle.world_model.specs.NodeState.{NodeState}
+use Rattle.world_model.specs.Replies.{is_taken}
 use Rattle.world_model.specs.Histories.{History}
 use Rattle.world_model.specs.Safety.{Published, IsCommitted, IsIdAtMost}
 use Rattle.policy_model.specs.declared.settings.Settings.{Settings}
@@ -172,10 +178,11 @@ processed-steady s v g xs (Still i is e q) = processed-steady s (moved s v i) (p
 
 -- ---- what is told
 
--- which requests came, and what the node had published last as the event began
+-- which requests came, what the node had published last as the event began, and of which requests the state of an id was published after they came
 pub record Basis : Type 1 where
   pub came : ℕ → Request → Type 0
   pub low : StateId
+  pub anew : ℕ → Request → StateId → Type 0
 
 -- one id is at most the other
 abbrev pub Up : StateId → StateId → Type 0
@@ -185,8 +192,18 @@ Up a b = IsIdAtMost a.term a.version b.term b.version
 abbrev pub HasReached : StateId → View → Type 0
 HasReached low v = Up low (last_id v.node)
 
+-- in the second profile the state of this id was published after the request came, where that is a write
+abbrev pub IsNewFor : Settings → Basis → StateId → Waiting → Type 0
+IsNewFor s P id w = s.policy.second ≡ true → is_write w.request.ask ≡ true → P.anew w.conn w.request id
+
+-- an act that publishes a state does so after the requests came
+abbrev pub Renews : Basis → NodeState → Act → ActReply → Type 0
+Renews P node (Value version config value) reply =
+    is_taken reply ≡ true → (conn : ℕ) (request : Request) → P.came conn request → P.anew conn request (record { term = node.term; version = version })
+Renews P node act reply = Unit {0}
+
 -- when a reply is true, by which requests came and which of them were processed
-pub record AckIsTrue (h : History) (low : StateId) (processed : List Waiting) (conn number : ℕ) (id : StateId) : Type 0 where
+pub record AckIsTrue (h : History) (s : Settings) (P : Basis) (processed : List Waiting) (conn number : ℕ) (id : StateId) : Type 0 where
   pub request : Waiting
   pub earlier : List Waiting
   pub later : List Waiting
@@ -194,7 +211,8 @@ pub record AckIsTrue (h : History) (low : StateId) (processed : List Waiting) (c
   pub is_processed : processed ≡ earlier ++ request ∷ later ++ after
   pub has_conn : request.conn ≡ conn
   pub has_number : request.request.id ≡ number
-  pub since : Up low id
+  pub since : Up P.low id
+  pub is_new : IsNewFor s P id request
   pub as_published : Published
   pub is_committed : IsCommitted h as_published
   pub is_id : id_of as_published.state ≡ id
@@ -208,34 +226,34 @@ pub record StateIsTrue (h : History) (P : Basis) (conn number : ℕ) (state : Cl
   pub came : P.came conn request
   pub committed : HasCommitted h state
 
-abbrev pub AnswerIsTrue : History → Basis → List Waiting → ℕ → ℕ → Answer → Type 0
-AnswerIsTrue h P processed conn number (answer.Acked id) = AckIsTrue h P.low processed conn number id
-AnswerIsTrue h P processed conn number (answer.State state) = StateIsTrue h P conn number state
-AnswerIsTrue h P processed conn number other = Unit {0}
+abbrev pub AnswerIsTrue : History → Settings → Basis → List Waiting → ℕ → ℕ → Answer → Type 0
+AnswerIsTrue h s P processed conn number (answer.Acked id) = AckIsTrue h s P processed conn number id
+AnswerIsTrue h s P processed conn number (answer.State state) = StateIsTrue h P conn number state
+AnswerIsTrue h s P processed conn number other = Unit {0}
 
-abbrev pub ReplyIsTrue : History → Basis → List Waiting → ℕ → Reply → Type 0
-ReplyIsTrue h P processed conn (reply.To number answer) = AnswerIsTrue h P processed conn number answer
-ReplyIsTrue h P processed conn (reply.BadLine fault) = Unit {0}
+abbrev pub ReplyIsTrue : History → Settings → Basis → List Waiting → ℕ → Reply → Type 0
+ReplyIsTrue h s P processed conn (reply.To number answer) = AnswerIsTrue h s P processed conn number answer
+ReplyIsTrue h s P processed conn (reply.BadLine fault) = Unit {0}
 
 -- each answer is true
-abbrev Truth : History → Basis → List Waiting → Outgoing → Type 0
-Truth h P g out = ReplyIsTrue h P g out.conn out.reply
+abbrev Truth : History → Settings → Basis → List Waiting → Outgoing → Type 0
+Truth h s P g out = ReplyIsTrue h s P g out.conn out.reply
 
-pub record AllTrue (h : History) (P : Basis) (g : List Waiting) (answers : List Outgoing) : Type 0 where
-  pub all : All (λ (out : Outgoing). ReplyIsTrue h P g out.conn out.reply) answers
+pub record AllTrue (h : History) (s : Settings) (P : Basis) (g : List Waiting) (answers : List Outgoing) : Type 0 where
+  pub all : All (λ (out : Outgoing). ReplyIsTrue h s P g out.conn out.reply) answers
 
-pub true-none : (h : History) (P : Basis) (g : List Waiting) → AllTrue h P g []
-true-none h P g = record { all = All-nil (Truth h P g) }
+pub true-none : (h : History) (s : Settings) (P : Basis) (g : List Waiting) → AllTrue h s P g []
+true-none h s P g = record { all = All-nil (Truth h s P g) }
 
-pub true-cons : (h : History) (P : Basis) (g : List Waiting) (out : Outgoing) (outs : List Outgoing) → ReplyIsTrue h P g out.conn out.reply → AllTrue h P g outs → AllTrue h P g (out ∷ outs)
-true-cons h P g out outs t a = record { all = All-cons (Truth h P g) out outs t a.all }
+pub true-cons : (h : History) (s : Settings) (P : Basis) (g : List Waiting) (out : Outgoing) (outs : List Outgoing) → ReplyIsTrue h s P g out.conn out.reply → AllTrue h s P g outs → AllTrue h s P g (out ∷ outs)
+true-cons h s P g out outs t a = record { all = All-cons (Truth h s P g) out outs t a.all }
 
-pub true-append : (h : History) (P : Basis) (g : List Waiting) (xs ys : List Outgoing) → AllTrue h P g xs → AllTrue h P g ys → AllTrue h P g (xs ++ ys)
-true-append h P g xs ys a b = record { all = All-append (Truth h P g) xs ys a.all b.all }
+pub true-append : (h : History) (s : Settings) (P : Basis) (g : List Waiting) (xs ys : List Outgoing) → AllTrue h s P g xs → AllTrue h s P g ys → AllTrue h s P g (xs ++ ys)
+true-append h s P g xs ys a b = record { all = All-append (Truth h s P g) xs ys a.all b.all }
 
 -- what is true stays true when more is processed
-granted_later : (h : History) (low : StateId) (g k : List Waiting) (conn number : ℕ) (id : StateId) → Grown g k → AckIsTrue h low g conn number id → AckIsTrue h low k conn number id
-granted_later h low g k conn number id m t = record {
+granted_later : (h : History) (s : Settings) (P : Basis) (g k : List Waiting) (conn number : ℕ) (id : StateId) → Grown g k → AckIsTrue h s P g conn number id → AckIsTrue h s P k conn number id
+granted_later h s P g k conn number id m t = record {
   request = t.request;
   earlier = t.earlier;
   later = t.later;
@@ -246,6 +264,7 @@ granted_later h low g k conn number id m t = record {
   has_conn = t.has_conn;
   has_number = t.has_number;
   since = t.since;
+  is_new = t.is_new;
   as_published = t.as_published;
   is_committed = t.is_committed;
   is_id = t.is_id;
@@ -253,26 +272,26 @@ granted_later h low g k conn number id m t = record {
   votes = t.votes;
 }
 
-answer_later : (h : History) (P : Basis) (g k : List Waiting) (conn number : ℕ) (a : Answer) → Grown g k → AnswerIsTrue h P g conn number a → AnswerIsTrue h P k conn number a
-answer_later h P g k conn number (answer.Acked id) m t = granted_later h P.low g k conn number id m t
-answer_later h P g k conn number (answer.State state) m t = t
-answer_later h P g k conn number (answer.NotMaster leader) m t = tt
-answer_later h P g k conn number (answer.BadSetting length) m t = tt
-answer_later h P g k conn number (answer.QueueFull count) m t = tt
-answer_later h P g k conn number (answer.TooManySettings count) m t = tt
-answer_later h P g k conn number (answer.TooManyExclusions count) m t = tt
-answer_later h P g k conn number (answer.StillMember id) m t = tt
-answer_later h P g k conn number (answer.FailedToCommit term) m t = tt
-answer_later h P g k conn number (answer.ExclusionTimeout ids) m t = tt
+answer_later : (h : History) (s : Settings) (P : Basis) (g k : List Waiting) (conn number : ℕ) (a : Answer) → Grown g k → AnswerIsTrue h s P g conn number a → AnswerIsTrue h s P k conn number a
+answer_later h s P g k conn number (answer.Acked id) m t = granted_later h s P g k conn number id m t
+answer_later h s P g k conn number (answer.State state) m t = t
+answer_later h s P g k conn number (answer.NotMaster leader) m t = tt
+answer_later h s P g k conn number (answer.BadSetting length) m t = tt
+answer_later h s P g k conn number (answer.QueueFull count) m t = tt
+answer_later h s P g k conn number (answer.TooManySettings count) m t = tt
+answer_later h s P g k conn number (answer.TooManyExclusions count) m t = tt
+answer_later h s P g k conn number (answer.StillMember id) m t = tt
+answer_later h s P g k conn number (answer.FailedToCommit term) m t = tt
+answer_later h s P g k conn number (answer.ExclusionTimeout ids) m t = tt
 
-reply_later : (h : History) (P : Basis) (g k : List Waiting) (conn : ℕ) (r : Reply) → Grown g k → ReplyIsTrue h P g conn r → ReplyIsTrue h P k conn r
-reply_later h P g k conn (reply.To number a) m t = answer_later h P g k conn number a m t
-reply_later h P g k conn (reply.BadLine fault) m t = tt
+reply_later : (h : History) (s : Settings) (P : Basis) (g k : List Waiting) (conn : ℕ) (r : Reply) → Grown g k → ReplyIsTrue h s P g conn r → ReplyIsTrue h s P k conn r
+reply_later h s P g k conn (reply.To number a) m t = answer_later h s P g k conn number a m t
+reply_later h s P g k conn (reply.BadLine fault) m t = tt
 
-pub true-later : (h : History) (P : Basis) (g k : List Waiting) (outs : List Outgoing) → Grown g k → AllTrue h P g outs → AllTrue h P k outs
-true-later h P g k [] m a = true-none h P k
-true-later h P g k (out ∷ outs) m a =
-    true-cons h P k out outs (reply_later h P g k out.conn out.reply m (All-head (Truth h P g) out outs a.all)) (true-later h P g k outs m (record { all = All-tail (Truth h P g) out outs a.all }))
+pub true-later : (h : History) (s : Settings) (P : Basis) (g k : List Waiting) (outs : List Outgoing) → Grown g k → AllTrue h s P g outs → AllTrue h s P k outs
+true-later h s P g k [] m a = true-none h s P k
+true-later h s P g k (out ∷ outs) m a =
+    true-cons h s P k out outs (reply_later h s P g k out.conn out.reply m (All-head (Truth h s P g) out outs a.all)) (true-later h s P g k outs m (record { all = All-tail (Truth h s P g) out outs a.all }))
 
 -- ---- a prefix
 
@@ -308,11 +327,11 @@ splits (x ∷ xs) ys (f ∷ fs) rest e = from (splits xs ys fs rest tail)
     from (Within more q) = Within more (λ i. head i ∷ q i)
     from (Beyond more p q) = Beyond more (λ i. sym head i ∷ p i) q
 
-module _ (h : History) (s : Settings) (low : StateId) where
-  -- the history backs each act, and who replies has published that much
+module _ (h : History) (s : Settings) (P : Basis) where
+  -- the history backs each act, what is published is published after who came, and who replies has published that much
   abbrev pub IsBacked : View → Item → Type 0
-  IsBacked v (Acts act (Answered reply)) = Backs h v.node act reply
-  IsBacked v (Replies answer) = HasReached low v
+  IsBacked v (Acts act (Answered reply)) = Backs h v.node act reply × Renews P v.node act reply
+  IsBacked v (Replies answer) = HasReached P.low v
   IsBacked v i = Unit {0}
 
   abbrev pub AreBacked : View → List Item → Type 0
@@ -325,26 +344,26 @@ module _ (h : History) (s : Settings) (low : StateId) where
 
 module _ (h : History) (s : Settings) (P : Basis) where
   pub record Ends (v : View) (g : List Waiting) (is : List Item) (Q : Place → Type 0) : Type 0 where
-    pub told : AllTrue h P (processed_after_all s v g is) (replies_of is)
+    pub told : AllTrue h s P (processed_after_all s v g is) (replies_of is)
     pub stands : Q (place (moved_all s v is) (processed_after_all s v g is))
 
   -- Where the history backs their acts, the items tell what is true of what was processed by their end, and leave a node that was v so that Q. Where it
   -- backs the acts of a prefix, what that tells is true.
   pub record Keeps (v : View) (g : List Waiting) (is : List Item) (Q : Place → Type 0) : Type 0 where
-    pub ends : AreBacked h s P.low v is → Ends v g is Q
-    pub within : (prefix rest : List Item) → is ≡ prefix ++ rest → AreBacked h s P.low v prefix → AllTrue h P (processed_after_all s v g is) (replies_of prefix)
+    pub ends : AreBacked h s P v is → Ends v g is Q
+    pub within : (prefix rest : List Item) → is ≡ prefix ++ rest → AreBacked h s P v prefix → AllTrue h s P (processed_after_all s v g is) (replies_of prefix)
 
   pub keeps-none : (v : View) (g : List Waiting) (Q : Place → Type 0) → Q (place v g) → Keeps v g [] Q
   keeps-none v g Q q = record {
-    ends = λ b. record { told = true-none h P g; stands = q };
-    within = λ prefix rest e b. subst (λ (f : List Item). AllTrue h P g (replies_of f)) (sym (no_prefix prefix rest e)) (true-none h P g);
+    ends = λ b. record { told = true-none h s P g; stands = q };
+    within = λ prefix rest e b. subst (λ (f : List Item). AllTrue h s P g (replies_of f)) (sym (no_prefix prefix rest e)) (true-none h s P g);
   }
 
   pub keeps-append : (v : View) (g : List Waiting) (xs ys : List Item) (R Q : Place → Type 0) → Keeps v g xs R
       → (R (place (moved_all s v xs) (processed_after_all s v g xs)) → Keeps (moved_all s v xs) (processed_after_all s v g xs) ys Q) → Keeps v g (xs ++ ys) Q
-  keeps-append v g xs ys R Q a next = record { ends = λ b. from (backed_parts h s P.low v xs ys b); within = λ prefix rest e b. part prefix rest b (splits xs ys prefix rest e) }
+  keeps-append v g xs ys R Q a next = record { ends = λ b. from (backed_parts h s P v xs ys b); within = λ prefix rest e b. part prefix rest b (splits xs ys prefix rest e) }
     where
-      from : AreBacked h s P.low v xs × AreBacked h s P.low (moved_all s v xs) ys → Ends v g (xs ++ ys) Q
+      from : AreBacked h s P v xs × AreBacked h s P (moved_all s v xs) ys → Ends v g (xs ++ ys) Q
       from b =
           let first = a.ends b.0 in
           let second = (next first.stands).ends b.1 in
@@ -352,28 +371,28 @@ module _ (h : History) (s : Settings) (P : Basis) where
           let l = processed_after_all s (moved_all s v xs) k ys in
           record {
             told =
-                subst (λ (p : List Waiting). AllTrue h P p (replies_of (xs ++ ys))) (sym (processed-append s v g xs ys))
-                (subst (AllTrue h P l) (sym (replies-append xs ys)) (true-append h P l (replies_of xs) (replies_of ys) (true-later h P k l (replies_of xs) (grown s (moved_all s v xs) k ys) first.told) second.told));
+                subst (λ (p : List Waiting). AllTrue h s P p (replies_of (xs ++ ys))) (sym (processed-append s v g xs ys))
+                (subst (AllTrue h s P l) (sym (replies-append xs ys)) (true-append h s P l (replies_of xs) (replies_of ys) (true-later h s P k l (replies_of xs) (grown s (moved_all s v xs) k ys) first.told) second.told));
             stands =
                 subst (λ (p : List Waiting). Q (place (moved_all s v (xs ++ ys)) p)) (sym (processed-append s v g xs ys))
                 (subst (λ (u : View). Q (place u l)) (sym (moved_all-append s v xs ys)) second.stands);
           }
 
-      part : (prefix rest : List Item) → AreBacked h s P.low v prefix → Splits xs ys prefix rest → AllTrue h P (processed_after_all s v g (xs ++ ys)) (replies_of prefix)
+      part : (prefix rest : List Item) → AreBacked h s P v prefix → Splits xs ys prefix rest → AllTrue h s P (processed_after_all s v g (xs ++ ys)) (replies_of prefix)
       part prefix rest b (Within more q) =
           let k = processed_after_all s v g xs in
           let l = processed_after_all s (moved_all s v xs) k ys in
-          subst (λ (p : List Waiting). AllTrue h P p (replies_of prefix)) (sym (processed-append s v g xs ys))
-          (true-later h P k l (replies_of prefix) (grown s (moved_all s v xs) k ys) (a.within prefix more q b))
+          subst (λ (p : List Waiting). AllTrue h s P p (replies_of prefix)) (sym (processed-append s v g xs ys))
+          (true-later h s P k l (replies_of prefix) (grown s (moved_all s v xs) k ys) (a.within prefix more q b))
       part prefix rest b (Beyond more p q) =
-          let both = backed_parts h s P.low v xs more (subst (λ (f : List Item). AreBacked h s P.low v f) p b) in
+          let both = backed_parts h s P v xs more (subst (λ (f : List Item). AreBacked h s P v f) p b) in
           let first = a.ends both.0 in
           let second = (next first.stands).within more rest q both.1 in
           let k = processed_after_all s v g xs in
           let l = processed_after_all s (moved_all s v xs) k ys in
-          subst (λ (p : List Waiting). AllTrue h P p (replies_of prefix)) (sym (processed-append s v g xs ys))
-          (subst (λ (f : List Item). AllTrue h P l (replies_of f)) (sym p)
-          (subst (AllTrue h P l) (sym (replies-append xs more)) (true-append h P l (replies_of xs) (replies_of more) (true-later h P k l (replies_of xs) (grown s (moved_all s v xs) k ys) first.told) second)))
+          subst (λ (p : List Waiting). AllTrue h s P p (replies_of prefix)) (sym (processed-append s v g xs ys))
+          (subst (λ (f : List Item). AllTrue h s P l (replies_of f)) (sym p)
+          (subst (AllTrue h s P l) (sym (replies-append xs more)) (true-append h s P l (replies_of xs) (replies_of more) (true-later h s P k l (replies_of xs) (grown s (moved_all s v xs) k ys) first.told) second)))
 
   pub keeps-then : (v : View) (g : List Waiting) (xs : List Item) (rule : View → List Item) (R Q : Place → Type 0) → Keeps v g xs R → ((u : View) (k : List Waiting) → R (place u k) → Keeps u k (rule u) Q)
       → Keeps v g (doing.then_rule s v xs rule) Q
@@ -384,66 +403,66 @@ module _ (h : History) (s : Settings) (P : Basis) where
   keeps-if v g false xs ys Q k l = l refl
 
   -- an item that tells nothing, and then the others
-  pub keeps-item : (v : View) (g : List Waiting) (i : Item) (is : List Item) (Q : Place → Type 0) → replies_in i ≡ [] → (IsBacked h s P.low v i → Keeps (moved s v i) (processed_after s v g i) is Q) → Keeps v g (i ∷ is) Q
+  pub keeps-item : (v : View) (g : List Waiting) (i : Item) (is : List Item) (Q : Place → Type 0) → replies_in i ≡ [] → (IsBacked h s P v i → Keeps (moved s v i) (processed_after s v g i) is Q) → Keeps v g (i ∷ is) Q
   keeps-item v g i is Q silent next = record {
     ends = λ b.
         let rest = (next b.0).ends b.1 in
-        record { told = subst (λ (l : List Outgoing). AllTrue h P (processed_after_all s v g (i ∷ is)) (l ++ replies_of is)) (sym silent) rest.told; stands = rest.stands };
+        record { told = subst (λ (l : List Outgoing). AllTrue h s P (processed_after_all s v g (i ∷ is)) (l ++ replies_of is)) (sym silent) rest.told; stands = rest.stands };
     within = part;
   }
     where
-      part : (prefix rest : List Item) → i ∷ is ≡ prefix ++ rest → AreBacked h s P.low v prefix → AllTrue h P (processed_after_all s v g (i ∷ is)) (replies_of prefix)
-      part [] rest e b = true-none h P (processed_after_all s v g (i ∷ is))
+      part : (prefix rest : List Item) → i ∷ is ≡ prefix ++ rest → AreBacked h s P v prefix → AllTrue h s P (processed_after_all s v g (i ∷ is)) (replies_of prefix)
+      part [] rest e b = true-none h s P (processed_after_all s v g (i ∷ is))
       part (f ∷ fs) rest e b =
           let head : i ≡ f = cc in
           let tail : is ≡ fs ++ rest = cc in
-          let own : AreBacked h s P.low v (i ∷ fs) = subst (λ (x : Item). AreBacked h s P.low v (x ∷ fs)) (sym head) b in
-          subst (λ (x : Item). AllTrue h P (processed_after_all s v g (i ∷ is)) (replies_of (x ∷ fs))) head
-          (subst (λ (l : List Outgoing). AllTrue h P (processed_after_all s v g (i ∷ is)) (l ++ replies_of fs)) (sym silent) ((next own.0).within fs rest tail own.1))
+          let own : AreBacked h s P v (i ∷ fs) = subst (λ (x : Item). AreBacked h s P v (x ∷ fs)) (sym head) b in
+          subst (λ (x : Item). AllTrue h s P (processed_after_all s v g (i ∷ is)) (replies_of (x ∷ fs))) head
+          (subst (λ (l : List Outgoing). AllTrue h s P (processed_after_all s v g (i ∷ is)) (l ++ replies_of fs)) (sym silent) ((next own.0).within fs rest tail own.1))
 
   pub keeps-steady : (v : View) (g : List Waiting) (is : List Item) (Q : Place → Type 0) → IsSteady is → Q (place v g) → Keeps v g is Q
   keeps-steady v g is Q q k = record {
     ends = λ b.
         record {
-          told = subst (AllTrue h P (processed_after_all s v g is)) (sym (steady_silent is q)) (true-none h P (processed_after_all s v g is));
+          told = subst (AllTrue h s P (processed_after_all s v g is)) (sym (steady_silent is q)) (true-none h s P (processed_after_all s v g is));
           stands = subst (λ (p : List Waiting). Q (place (moved_all s v is) p)) (sym (processed-steady s v g is q)) (subst (λ (x : Standing). Q (record { stands = x; processed = g })) (sym (steady_stands s v is q)) k);
         };
-    within = λ prefix rest e b. subst (AllTrue h P (processed_after_all s v g is)) (sym (steady_silent prefix (steady_prefix prefix rest is e q))) (true-none h P (processed_after_all s v g is));
+    within = λ prefix rest e b. subst (AllTrue h s P (processed_after_all s v g is)) (sym (steady_silent prefix (steady_prefix prefix rest is e q))) (true-none h s P (processed_after_all s v g is));
   }
 
   -- a reply that is true of what is processed by the end, and what comes after it
-  keeps-first : (v : View) (g : List Waiting) (out : Outgoing) (is : List Item) (Q : Place → Type 0) → (HasReached P.low v → ReplyIsTrue h P (processed_after_all s v g is) out.conn out.reply) → Keeps v g is Q
+  keeps-first : (v : View) (g : List Waiting) (out : Outgoing) (is : List Item) (Q : Place → Type 0) → (HasReached P.low v → ReplyIsTrue h s P (processed_after_all s v g is) out.conn out.reply) → Keeps v g is Q
       → Keeps v g (Replies out ∷ is) Q
   keeps-first v g out is Q t k = record {
     ends = λ b.
         let more = k.ends b.1 in
-        record { told = true-cons h P (processed_after_all s v g is) out (replies_of is) (t b.0) more.told; stands = more.stands };
+        record { told = true-cons h s P (processed_after_all s v g is) out (replies_of is) (t b.0) more.told; stands = more.stands };
     within = part;
   }
     where
-      part : (prefix rest : List Item) → Replies out ∷ is ≡ prefix ++ rest → AreBacked h s P.low v prefix → AllTrue h P (processed_after_all s v g is) (replies_of prefix)
-      part [] rest e b = true-none h P (processed_after_all s v g is)
+      part : (prefix rest : List Item) → Replies out ∷ is ≡ prefix ++ rest → AreBacked h s P v prefix → AllTrue h s P (processed_after_all s v g is) (replies_of prefix)
+      part [] rest e b = true-none h s P (processed_after_all s v g is)
       part (f ∷ fs) rest e b =
           let head : Replies out ≡ f = cc in
           let tail : is ≡ fs ++ rest = cc in
-          let own : AreBacked h s P.low v (Replies out ∷ fs) = subst (λ (x : Item). AreBacked h s P.low v (x ∷ fs)) (sym head) b in
-          subst (λ (x : Item). AllTrue h P (processed_after_all s v g is) (replies_of (x ∷ fs))) head
-          (true-cons h P (processed_after_all s v g is) out (replies_of fs) (t own.0) (k.within fs rest tail own.1))
+          let own : AreBacked h s P v (Replies out ∷ fs) = subst (λ (x : Item). AreBacked h s P v (x ∷ fs)) (sym head) b in
+          subst (λ (x : Item). AllTrue h s P (processed_after_all s v g is) (replies_of (x ∷ fs))) head
+          (true-cons h s P (processed_after_all s v g is) out (replies_of fs) (t own.0) (k.within fs rest tail own.1))
 
   -- replies that are true so, and what comes after them
-  pub keeps-replies : (v : View) (g : List Waiting) (answers : List Outgoing) (rest : List Item) (Q : Place → Type 0) → (HasReached P.low v → AllTrue h P (processed_after_all s v g rest) answers) → Keeps v g rest Q
+  pub keeps-replies : (v : View) (g : List Waiting) (answers : List Outgoing) (rest : List Item) (Q : Place → Type 0) → (HasReached P.low v → AllTrue h s P (processed_after_all s v g rest) answers) → Keeps v g rest Q
       → Keeps v g (doing.reply_all s answers ++ rest) Q
   keeps-replies v g [] rest Q a k = k
   keeps-replies v g (out ∷ outs) rest Q a k =
       keeps-first v g out (doing.reply_all s outs ++ rest) Q
-      (λ r. subst (λ (p : List Waiting). ReplyIsTrue h P p out.conn out.reply) (sym (past s v g outs rest)) (All-head (Truth h P (processed_after_all s v g rest)) out outs (a r).all))
-      (keeps-replies v g outs rest Q (λ r. record { all = All-tail (Truth h P (processed_after_all s v g rest)) out outs (a r).all }) k)
+      (λ r. subst (λ (p : List Waiting). ReplyIsTrue h s P p out.conn out.reply) (sym (past s v g outs rest)) (All-head (Truth h s P (processed_after_all s v g rest)) out outs (a r).all))
+      (keeps-replies v g outs rest Q (λ r. record { all = All-tail (Truth h s P (processed_after_all s v g rest)) out outs (a r).all }) k)
 
-  pub keeps-answers : (v : View) (g : List Waiting) (answers : List Outgoing) (rest : List Item) (Q : Place → Type 0) → (HasReached P.low v → AllTrue h P g answers) → Keeps v g rest Q → Keeps v g (doing.reply_all s answers ++ rest) Q
-  keeps-answers v g answers rest Q a k = keeps-replies v g answers rest Q (λ r. true-later h P g (processed_after_all s v g rest) answers (grown s v g rest) (a r)) k
+  pub keeps-answers : (v : View) (g : List Waiting) (answers : List Outgoing) (rest : List Item) (Q : Place → Type 0) → (HasReached P.low v → AllTrue h s P g answers) → Keeps v g rest Q → Keeps v g (doing.reply_all s answers ++ rest) Q
+  keeps-answers v g answers rest Q a k = keeps-replies v g answers rest Q (λ r. true-later h s P g (processed_after_all s v g rest) answers (grown s v g rest) (a r)) k
 
-  pub keeps-all : (v : View) (g : List Waiting) (answers : List Outgoing) (Q : Place → Type 0) → (HasReached P.low v → AllTrue h P g answers) → Q (place v g) → Keeps v g (doing.reply_all s answers) Q
+  pub keeps-all : (v : View) (g : List Waiting) (answers : List Outgoing) (Q : Place → Type 0) → (HasReached P.low v → AllTrue h s P g answers) → Q (place v g) → Keeps v g (doing.reply_all s answers) Q
   keeps-all v g answers Q a k = subst (λ (l : List Item). Keeps v g l Q) (append-nil (doing.reply_all s answers)) (keeps-answers v g answers [] Q a (keeps-none v g Q k))
 
-  pub keeps-reply : (v : View) (g : List Waiting) (out : Outgoing) (Q : Place → Type 0) → (HasReached P.low v → ReplyIsTrue h P g out.conn out.reply) → Q (place v g) → Keeps v g (Replies out ∷ []) Q
+  pub keeps-reply : (v : View) (g : List Waiting) (out : Outgoing) (Q : Place → Type 0) → (HasReached P.low v → ReplyIsTrue h s P g out.conn out.reply) → Q (place v g) → Keeps v g (Replies out ∷ []) Q
   keeps-reply v g out Q t k = keeps-first v g out [] Q t (keeps-none v g Q k)

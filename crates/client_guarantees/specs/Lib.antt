@@ -3,3 +3,4 @@ pub mod Processed
 pub mod Replies
 pub mod Lasting
 pub mod Laws
+pub mod InTime

@@ -1,6 +1,12 @@
 //! What a client may rely on. The calls do nothing: what they promise is proved.
 #![tactic(auto)]
 
+ghost use Rattle.client_guarantees.specs.InTime.{
+  LawAcksFollowTime,
+  LawRestartedAcksFollowTime,
+  LawRestartedWritesArePublishedAfterTheyCame,
+  LawWritesArePublishedAfterTheyCame,
+};
 ghost use Rattle.client_guarantees.specs.Laws.{
   LawExcludedStayOut,
   LawLastRepliesAreTrue,
@@ -50,4 +56,25 @@ pub fn law_last_setting_stands()
 /// one, member or not: so a node that was excluded before it joins stays out as it joins.
 pub fn law_excluded_stay_out()
     ensures { LawExcludedStayOut }
+{}
+
+/// By the second profile a put, a remove or a clear is acknowledged with a state that was published after its line came,
+/// and so with none that any node had published by then.
+pub fn law_writes_are_published_after_they_came()
+    ensures { LawWritesArePublishedAfterTheyCame }
+{}
+
+/// So that state is above each one that was committed as the line came, and was made of it.
+pub fn law_acks_follow_time()
+    ensures { LawAcksFollowTime }
+{}
+
+/// So it is from the restart of one node on.
+pub fn law_restarted_writes_are_published_after_they_came()
+    ensures { LawRestartedWritesArePublishedAfterTheyCame }
+{}
+
+/// And that state is above each one that was committed since the restart as the line came.
+pub fn law_restarted_acks_follow_time()
+    ensures { LawRestartedAcksFollowTime }
 {}
