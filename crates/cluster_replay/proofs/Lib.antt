@@ -6,6 +6,7 @@ pub mod Invariants
 pub mod JsonStrings
 pub mod JsonTexts
 pub mod Lasting
+pub mod InOrder
 pub mod Naming
 pub mod NextFits
 pub mod Outside

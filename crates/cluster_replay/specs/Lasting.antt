@@ -3,6 +3,7 @@ use Rattle.std.specs.Prelude.{◌≡◌, true, ◌⊎◌, List}
 use Rattle.std.specs.List.{Contains}
 use Rattle.voting_config.specs.Ids.{Id, has}
 use Rattle.cluster_state.specs.declared.state.Kept.{Kept}
+use Rattle.world_model.specs.Acts.{NodeHistory}
 use Rattle.world_model.specs.Restarts.{IsAlone}
 use Rattle.world_model.specs.Safety.{Published, published, IsCommitted, IsAtMost}
 use Rattle.schedule_text.specs.declared.schedule.Schedule.{Schedule}
@@ -12,6 +13,7 @@ use Rattle.policy_model.specs.Events.{Item, Log}
 use Rattle.policy_model.specs.Entries.{Life, Lived, Did, log_of}
 use Rattle.replay_node.specs.Clusters.{settings_of, replayed_history, replayed_life}
 use Rattle.client_guarantees.specs.Lasting.{IsPartOf, Lasts, AckLasts}
+use Rattle.client_guarantees.specs.InTime.{WritesAreInOrder}
 use Rattle.system_laws.specs.Systems.{System, Nothing, Starts, Lives, Dies, Runs, run_of, history_of, IsSystem}
 use Rattle.system_laws.specs.RestartedSystems.{IsSystemFrom}
 use Rattle.cluster_replay.specs.Laws.{IsWellFormed}
@@ -39,6 +41,13 @@ abbrev pub LawClusterAcksLast : Type 0
 LawClusterAcksLast =
     (schedule : Schedule) → IsWellFormed schedule
     → (s : Settings) (life : Life) → AckLasts (HadSeenIn schedule) (replayed_history schedule) s life
+
+-- and acknowledged writes of the second profile are in order of time
+abbrev pub LawClusterWritesAreInOrder : Type 0
+LawClusterWritesAreInOrder =
+    (schedule : Schedule) → IsWellFormed schedule
+    → (s : Settings) (before_run : NodeHistory) (life : Life)
+    → WritesAreInOrder (HadSeenIn schedule) (replayed_history schedule) s before_run life
 
 -- ---- systems
 
@@ -68,6 +77,12 @@ LawSystemSettingsLast =
 abbrev pub LawSystemAcksLast : Type 0
 LawSystemAcksLast = (initial : List Id) (h : System) → IsSystem initial h → (s : Settings) (life : Life) → AckLasts (HadSeen h) (history_of h) s life
 
+-- and acknowledged writes of the second profile are in order of time
+abbrev pub LawSystemWritesAreInOrder : Type 0
+LawSystemWritesAreInOrder =
+    (initial : List Id) (h : System) → IsSystem initial h
+    → (s : Settings) (before_run : NodeHistory) (life : Life) → WritesAreInOrder (HadSeen h) (history_of h) s before_run life
+
 -- ---- from the restart of one node on, of what is committed and acked since
 
 abbrev pub LawRestartedSettingsLast : Type 0
@@ -80,3 +95,8 @@ abbrev pub LawRestartedAcksLast : Type 0
 LawRestartedAcksLast =
     (first : Id) (kept : Kept) (h : System) → IsAlone first kept → IsSystemFrom first kept h
     → (s : Settings) (life : Life) → AckLasts (HadSeen h) (history_of h) s life
+
+abbrev pub LawRestartedWritesAreInOrder : Type 0
+LawRestartedWritesAreInOrder =
+    (first : Id) (kept : Kept) (h : System) → IsAlone first kept → IsSystemFrom first kept h
+    → (s : Settings) (before_run : NodeHistory) (life : Life) → WritesAreInOrder (HadSeen h) (history_of h) s before_run life

@@ -4,10 +4,13 @@ ghost use Rattle.cluster_replay.specs.Laws.{LawClusterRepliesAreTrue, LawCluster
 ghost use Rattle.cluster_replay.specs.Lasting.{
   LawClusterAcksLast,
   LawClusterSettingsLast,
+  LawClusterWritesAreInOrder,
   LawRestartedAcksLast,
   LawRestartedSettingsLast,
+  LawRestartedWritesAreInOrder,
   LawSystemAcksLast,
   LawSystemSettingsLast,
+  LawSystemWritesAreInOrder,
 };
 ghost use Rattle.cluster_replay.specs.SystemReplies.{
   LawKilledRepliesAreTrue,
@@ -62,6 +65,13 @@ pub fn law_cluster_acks_last()
     ensures { LawClusterAcksLast }
 {}
 
+/// By the second profile acknowledged writes are in order of time: of two acks, by whichever nodes, where the line of the
+/// second's write came when the first had been sent, the second's state was made of the first's, and what the write says
+/// is there from then on, until a later request changes it.
+pub fn law_cluster_writes_are_in_order()
+    ensures { LawClusterWritesAreInOrder }
+{}
+
 /// The same of a system of nodes, each of whose runs follows the policy.
 pub fn law_system_settings_last()
     ensures { LawSystemSettingsLast }
@@ -70,6 +80,11 @@ pub fn law_system_settings_last()
 /// And of its acks.
 pub fn law_system_acks_last()
     ensures { LawSystemAcksLast }
+{}
+
+/// And of the order of its acknowledged writes.
+pub fn law_system_writes_are_in_order()
+    ensures { LawSystemWritesAreInOrder }
 {}
 
 /// Each reply of each run of each node is true too in a system that one node begins alone, restarted from what it kept, as
@@ -91,4 +106,9 @@ pub fn law_restarted_settings_last()
 /// The same of its acks.
 pub fn law_restarted_acks_last()
     ensures { LawRestartedAcksLast }
+{}
+
+/// And of the order of its acknowledged writes.
+pub fn law_restarted_writes_are_in_order()
+    ensures { LawRestartedWritesAreInOrder }
 {}
