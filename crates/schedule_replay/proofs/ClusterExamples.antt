@@ -1,5 +1,5 @@
 -- What the parts of a schedule of a whole node show.
-use Rattle.std.proofs.Common.{◌≡◌, Some, [], ◌∷◌, refl}
+use Rattle.std.proofs.Common.{◌≡◌, false, Some, [], ◌∷◌, refl}
 use Rattle.std.specs.Prelude.{codes}
 use Rattle.std.specs.Fmt.{digits}
 use Rattle.voting_config.specs.Ids.{Id}
@@ -22,7 +22,7 @@ a = codes "a"
 
 -- a node alone begins a cluster, wins, publishes its first state, and commits it
 abbrev alone : Schedule
-alone = record { nodes = a ∷ []; initial = a ∷ []; voting_only = []; lines = Tick a 0 7 ∷ Tick a 8 7 ∷ Deliver a 1 ∷ Deliver a 2 ∷ Deliver a 3 ∷ Deliver a 4 ∷ [] }
+alone = record { nodes = a ∷ []; initial = a ∷ []; voting_only = []; second = false; lines = Tick a 0 7 ∷ Tick a 8 7 ∷ Deliver a 1 ∷ Deliver a 2 ∷ Deliver a 3 ∷ Deliver a 4 ∷ [] }
 
 one_win : wins_of (core_of (cluster_parts alone)) ≡ record { node = a; term = 1 } ∷ []
 unfolding join_checked processed_by next_value config_for next_config is_accepted is_nothing_new next_answers tasks_after digits eight_bytes two_bytes sized framed laid size_at bodies_from bodies_of generations_of misplaced_from epoch_in first_words schedule rounds compress hash_after digest_bytes sha256 guarded guard_fault body_of change_tagged with_change folded_from

@@ -18,7 +18,7 @@ use Rattle.schedule_replay.proofs.ClusterReplies.{all_modes, all_drops, all_repl
 use Rattle.schedule_replay.proofs.ClusterTelling.{lines_piece, go_on}
 
 whole : (s : Schedule) → Piece NoEntries [] (replayed_history s) (replayed s).frames (trace s) s.lines (cluster_parts s)
-whole s = lines_piece s.nodes s.initial s.voting_only (fresh_cluster s.nodes s.initial s.voting_only) s.lines
+whole s = lines_piece s.nodes s.initial s.voting_only s.second (fresh_cluster s.nodes s.initial s.voting_only s.second) s.lines
 
 pub tells : LawClusterTraceGivesHistory
 tells s =
@@ -29,13 +29,13 @@ tells s =
       history = p.history;
       messages = numbers NoEntries (core_of (cluster_parts s)) p.right ∙ ap (λ (h : History). numbered 0 (sent h)) p.history;
       frames = p.frames;
-      modes = λ n. all_modes n s.nodes s.initial s.voting_only s.lines;
-      drops = λ n. all_drops n s.nodes s.initial s.voting_only s.lines;
-      replies = λ n. all_replies n s.nodes s.initial s.voting_only s.lines;
+      modes = λ n. all_modes n s.nodes s.initial s.voting_only s.second s.lines;
+      drops = λ n. all_drops n s.nodes s.initial s.voting_only s.second s.lines;
+      replies = λ n. all_replies n s.nodes s.initial s.voting_only s.second s.lines;
     }
 
 pub goes_on : LawClusterPartsGoOn
-goes_on s more = go_on s.nodes s.initial s.voting_only (fresh_cluster s.nodes s.initial s.voting_only) s.lines more
+goes_on s more = go_on s.nodes s.initial s.voting_only s.second (fresh_cluster s.nodes s.initial s.voting_only s.second) s.lines more
 
 pub shows : LawClusterTraceShows
 shows s l =

@@ -263,47 +263,47 @@ module _ {X : Type 0} (r : Said X) (m : Id) where
             ∙ start_goes c (opening (own_world s c).disk).ended
         from false = stays_shared c (restart_part c.world s.me)
 
-  module _ (nodes initial voting_only : List Id) where
+  module _ (nodes initial voting_only : List Id) (second : Bool) where
     crash_goes : (c : Cluster) (n : Id) (b : Bool) → Goes c c ((if b then Shared (WasDown n) else Shared (WentDown n)) ∷ [])
     crash_goes c n true = stays_shared c (WasDown n)
     crash_goes c n false = stays_shared c (WentDown n)
 
-    line_goes : (c : Cluster) (l : Line) → Goes c (after nodes initial voting_only c l) (line_parts nodes initial voting_only c l)
-    line_goes c (line.Tick n now word) = if_up_goes (settings_of nodes initial voting_only n) c (Tick now word)
-    line_goes c (line.Client n bytes) = if_up_goes (settings_of nodes initial voting_only n) c (LineCame 0 bytes)
-    line_goes c (line.Disconnect n peer) = if_up_goes (settings_of nodes initial voting_only n) c (PeerGone peer)
-    line_goes c (line.Deliver n number) = frame_goes (settings_of nodes initial voting_only n) c (frame_at c number)
+    line_goes : (c : Cluster) (l : Line) → Goes c (after nodes initial voting_only second c l) (line_parts nodes initial voting_only second c l)
+    line_goes c (line.Tick n now word) = if_up_goes (settings_of nodes initial voting_only second n) c (Tick now word)
+    line_goes c (line.Client n bytes) = if_up_goes (settings_of nodes initial voting_only second n) c (LineCame 0 bytes)
+    line_goes c (line.Disconnect n peer) = if_up_goes (settings_of nodes initial voting_only second n) c (PeerGone peer)
+    line_goes c (line.Deliver n number) = frame_goes (settings_of nodes initial voting_only second n) c (frame_at c number)
     line_goes c (line.Crash n way) = crash_goes c n (c.world.down n)
-    line_goes c (line.Restart n) = restart_goes (settings_of nodes initial voting_only n) c
+    line_goes c (line.Restart n) = restart_goes (settings_of nodes initial voting_only second n) c
     line_goes c (line.Fuse n count way) = append-nil (life_shows r.items (c.lives m))
     line_goes c (line.Fail n count) = append-nil (life_shows r.items (c.lives m))
     line_goes c (line.Boot n) = append-nil (life_shows r.items (c.lives m))
     line_goes c (line.StartJoin n candidate term) = append-nil (life_shows r.items (c.lives m))
     line_goes c (line.Value n version text config) = append-nil (life_shows r.items (c.lives m))
 
-    lines_go : (c : Cluster) (ls : List Line) → Goes c (replayed_from nodes initial voting_only c ls) (parts_from nodes initial voting_only c ls)
+    lines_go : (c : Cluster) (ls : List Line) → Goes c (replayed_from nodes initial voting_only second c ls) (parts_from nodes initial voting_only second c ls)
     lines_go c [] = append-nil (life_shows r.items (c.lives m))
     lines_go c (l ∷ ls) =
-        ap (λ (xs : List X). life_shows r.items (c.lives m) ++ xs) (one_shared (Echo l) (line_parts nodes initial voting_only c l ++ parts_from nodes initial voting_only (after nodes initial voting_only c l) ls))
-        ∙ goes c (after nodes initial voting_only c l) (replayed_from nodes initial voting_only c (l ∷ ls)) (line_parts nodes initial voting_only c l) (parts_from nodes initial voting_only (after nodes initial voting_only c l) ls) (line_goes c l)
-        (lines_go (after nodes initial voting_only c l) ls)
+        ap (λ (xs : List X). life_shows r.items (c.lives m) ++ xs) (one_shared (Echo l) (line_parts nodes initial voting_only second c l ++ parts_from nodes initial voting_only second (after nodes initial voting_only second c l) ls))
+        ∙ goes c (after nodes initial voting_only second c l) (replayed_from nodes initial voting_only second c (l ∷ ls)) (line_parts nodes initial voting_only second c l) (parts_from nodes initial voting_only second (after nodes initial voting_only second c l) ls) (line_goes c l)
+        (lines_go (after nodes initial voting_only second c l) ls)
 
     -- a node's life begins with its start, which changes nothing that is shown
-    all_said : (ls : List Line) → life_shows r.items ((fresh_cluster nodes initial voting_only).lives m) ≡ [] → flat_map (r.part m) (parts_from nodes initial voting_only (fresh_cluster nodes initial voting_only) ls)
-        ≡ life_shows r.items ((replayed_from nodes initial voting_only (fresh_cluster nodes initial voting_only) ls).lives m)
-    all_said ls none = ap (λ (xs : List X). xs ++ flat_map (r.part m) (parts_from nodes initial voting_only (fresh_cluster nodes initial voting_only) ls)) (sym none) ∙ lines_go (fresh_cluster nodes initial voting_only) ls
+    all_said : (ls : List Line) → life_shows r.items ((fresh_cluster nodes initial voting_only second).lives m) ≡ [] → flat_map (r.part m) (parts_from nodes initial voting_only second (fresh_cluster nodes initial voting_only second) ls)
+        ≡ life_shows r.items ((replayed_from nodes initial voting_only second (fresh_cluster nodes initial voting_only second) ls).lives m)
+    all_said ls none = ap (λ (xs : List X). xs ++ flat_map (r.part m) (parts_from nodes initial voting_only second (fresh_cluster nodes initial voting_only second) ls)) (sym none) ∙ lines_go (fresh_cluster nodes initial voting_only second) ls
 
 -- ---- each of them
 
-module _ (m : Id) (nodes initial voting_only : List Id) (ls : List Line) where
-  pub all_modes : modes_shown m (parts_from nodes initial voting_only (fresh_cluster nodes initial voting_only) ls) ≡ life_modes ((replayed_from nodes initial voting_only (fresh_cluster nodes initial voting_only) ls).lives m)
+module _ (m : Id) (nodes initial voting_only : List Id) (second : Bool) (ls : List Line) where
+  pub all_modes : modes_shown m (parts_from nodes initial voting_only second (fresh_cluster nodes initial voting_only second) ls) ≡ life_modes ((replayed_from nodes initial voting_only second (fresh_cluster nodes initial voting_only second) ls).lives m)
   unfolding said_modes
-  all_modes = all_said said_modes m nodes initial voting_only ls refl
+  all_modes = all_said said_modes m nodes initial voting_only second ls refl
 
-  pub all_drops : drops_shown m (parts_from nodes initial voting_only (fresh_cluster nodes initial voting_only) ls) ≡ life_drops ((replayed_from nodes initial voting_only (fresh_cluster nodes initial voting_only) ls).lives m)
+  pub all_drops : drops_shown m (parts_from nodes initial voting_only second (fresh_cluster nodes initial voting_only second) ls) ≡ life_drops ((replayed_from nodes initial voting_only second (fresh_cluster nodes initial voting_only second) ls).lives m)
   unfolding said_drops
-  all_drops = all_said said_drops m nodes initial voting_only ls refl
+  all_drops = all_said said_drops m nodes initial voting_only second ls refl
 
-  pub all_replies : replies_shown m (parts_from nodes initial voting_only (fresh_cluster nodes initial voting_only) ls) ≡ life_replies ((replayed_from nodes initial voting_only (fresh_cluster nodes initial voting_only) ls).lives m)
+  pub all_replies : replies_shown m (parts_from nodes initial voting_only second (fresh_cluster nodes initial voting_only second) ls) ≡ life_replies ((replayed_from nodes initial voting_only second (fresh_cluster nodes initial voting_only second) ls).lives m)
   unfolding said_replies
-  all_replies = all_said said_replies m nodes initial voting_only ls refl
+  all_replies = all_said said_replies m nodes initial voting_only second ls refl

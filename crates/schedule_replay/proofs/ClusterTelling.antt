@@ -117,19 +117,19 @@ module _ (s : Settings) where
 
 -- ---- the lines
 
-module _ (nodes initial voting_only : List Id) where
+module _ (nodes initial voting_only : List Id) (second : Bool) where
   crash_piece : (c : Cluster) (n : Id) (x : World) → x.history ≡ c.world.history → (b : Bool)
       → PieceOf c (record c { world = if b then c.world else x }) (if b then down_line n else crashed_line n) [] ((if b then Shared (WasDown n) else Shared (WentDown n)) ∷ [])
   crash_piece c n x e true = shared c.world.history c.world.history c.frames (down_line n) [] (WasDown n) refl refl tt refl
   crash_piece c n x e false = shared c.world.history x.history c.frames (crashed_line n) [] (WentDown n) refl refl tt (sym e)
 
-  line_piece : (c : Cluster) (l : Line) → PieceOf c (after nodes initial voting_only c l) (line_shown nodes initial voting_only c l) [] (line_parts nodes initial voting_only c l)
-  line_piece c (line.Tick n now word) = if_up (settings_of nodes initial voting_only n) c (Tick now word)
-  line_piece c (line.Client n bytes) = if_up (settings_of nodes initial voting_only n) c (LineCame 0 bytes)
-  line_piece c (line.Disconnect n peer) = if_up (settings_of nodes initial voting_only n) c (PeerGone peer)
-  line_piece c (line.Deliver n number) = frame_piece (settings_of nodes initial voting_only n) c (frame_at c number)
+  line_piece : (c : Cluster) (l : Line) → PieceOf c (after nodes initial voting_only second c l) (line_shown nodes initial voting_only second c l) [] (line_parts nodes initial voting_only second c l)
+  line_piece c (line.Tick n now word) = if_up (settings_of nodes initial voting_only second n) c (Tick now word)
+  line_piece c (line.Client n bytes) = if_up (settings_of nodes initial voting_only second n) c (LineCame 0 bytes)
+  line_piece c (line.Disconnect n peer) = if_up (settings_of nodes initial voting_only second n) c (PeerGone peer)
+  line_piece c (line.Deliver n number) = frame_piece (settings_of nodes initial voting_only second n) c (frame_at c number)
   line_piece c (line.Crash n way) = crash_piece c n (with_node c.world n c.world.history (after_crash way (node_world c.world n))) refl (c.world.down n)
-  line_piece c (line.Restart n) = restart_piece (settings_of nodes initial voting_only n) c
+  line_piece c (line.Restart n) = restart_piece (settings_of nodes initial voting_only second n) c
   line_piece c (line.Fuse n count way) = nothing c.world.history c.frames
   line_piece c (line.Fail n count) = nothing c.world.history c.frames
   line_piece c (line.Boot n) = nothing c.world.history c.frames
@@ -139,12 +139,12 @@ module _ (nodes initial voting_only : List Id) where
   echo_piece : (c : Cluster) (l : Line) → PieceOf c c (codes "> " ++ line_text l ++ codes "\n") (l ∷ []) (Shared (Echo l) ∷ [])
   echo_piece c l = shared c.world.history c.world.history c.frames (codes "> " ++ line_text l ++ codes "\n") (l ∷ []) (Echo l) refl refl tt refl
 
-  pub lines_piece : (c : Cluster) (ls : List Line) → PieceOf c (replayed_from nodes initial voting_only c ls) (trace_from nodes initial voting_only c ls) ls (parts_from nodes initial voting_only c ls)
+  pub lines_piece : (c : Cluster) (ls : List Line) → PieceOf c (replayed_from nodes initial voting_only second c ls) (trace_from nodes initial voting_only second c ls) ls (parts_from nodes initial voting_only second c ls)
   lines_piece c [] = nothing c.world.history c.frames
   lines_piece c (l ∷ ls) =
-      let d : Cluster = after nodes initial voting_only c l in
-      let first = both c.world.history c.world.history d.world.history c.frames c.frames d.frames _ _ (l ∷ []) [] (Shared (Echo l) ∷ []) (line_parts nodes initial voting_only c l) (echo_piece c l) (line_piece c l) in
-      both c.world.history d.world.history _ c.frames d.frames _ _ _ (l ∷ []) ls (Shared (Echo l) ∷ line_parts nodes initial voting_only c l) (parts_from nodes initial voting_only d ls) first (lines_piece d ls)
+      let d : Cluster = after nodes initial voting_only second c l in
+      let first = both c.world.history c.world.history d.world.history c.frames c.frames d.frames _ _ (l ∷ []) [] (Shared (Echo l) ∷ []) (line_parts nodes initial voting_only second c l) (echo_piece c l) (line_piece c l) in
+      both c.world.history d.world.history _ c.frames d.frames _ _ _ (l ∷ []) ls (Shared (Echo l) ∷ line_parts nodes initial voting_only second c l) (parts_from nodes initial voting_only second d ls) first (lines_piece d ls)
 
   -- ---- more lines
 
@@ -154,6 +154,6 @@ module _ (nodes initial voting_only : List Id) where
   behind : (prefix old new : List ClusterPart) → GoesOn old new → GoesOn (prefix ++ old) (prefix ++ new)
   behind prefix old new g = (g.0, ap (λ x. prefix ++ x) g.1 ∙ sym (append_assoc prefix old g.0))
 
-  pub go_on : (c : Cluster) (ls more : List Line) → GoesOn (parts_from nodes initial voting_only c ls) (parts_from nodes initial voting_only c (ls ++ more))
-  go_on c [] more = (parts_from nodes initial voting_only c more, refl)
-  go_on c (l ∷ ls) more = behind (Shared (Echo l) ∷ line_parts nodes initial voting_only c l) _ _ (go_on (after nodes initial voting_only c l) ls more)
+  pub go_on : (c : Cluster) (ls more : List Line) → GoesOn (parts_from nodes initial voting_only second c ls) (parts_from nodes initial voting_only second c (ls ++ more))
+  go_on c [] more = (parts_from nodes initial voting_only second c more, refl)
+  go_on c (l ∷ ls) more = behind (Shared (Echo l) ∷ line_parts nodes initial voting_only second c l) _ _ (go_on (after nodes initial voting_only second c l) ls more)

@@ -1,5 +1,5 @@
 -- A trace is empty, or ends with a line feed.
-use Rattle.std.proofs.Common.{ℕ, Option, None, Some, List, [], ◌∷◌, ◌++◌, sym, subst, append-nil, append_assoc}
+use Rattle.std.proofs.Common.{ℕ, Bool, Option, None, Some, List, [], ◌∷◌, ◌++◌, sym, subst, append-nil, append_assoc}
 use Rattle.std.specs.Prelude.{codes, decimal}
 use Rattle.voting_config.specs.Ids.{Id}
 use Rattle.cluster_state.specs.declared.state.ClusterState.{ClusterState}
@@ -91,5 +91,5 @@ cluster_steps_end : (xs : List ClusterPart) → EndsLine (cluster_text xs)
 cluster_steps_end [] = Empty
 cluster_steps_end (x ∷ xs) = both_end (cluster_part_text x) (cluster_text xs) (cluster_step_ends x) (cluster_steps_end xs)
 
-pub cluster_trace_ends : (nodes initial voting_only : List Id) (c : Cluster) (ls : List Line) → EndsLine (cluster_trace nodes initial voting_only c ls)
-cluster_trace_ends nodes initial voting_only c ls = subst EndsLine (sym (lines_piece nodes initial voting_only c ls).text_is) (cluster_steps_end (cluster_parts nodes initial voting_only c ls))
+pub cluster_trace_ends : (nodes initial voting_only : List Id) (second : Bool) (c : Cluster) (ls : List Line) → EndsLine (cluster_trace nodes initial voting_only second c ls)
+cluster_trace_ends nodes initial voting_only second c ls = subst EndsLine (sym (lines_piece nodes initial voting_only second c ls).text_is) (cluster_steps_end (cluster_parts nodes initial voting_only second c ls))

@@ -29,7 +29,7 @@ a = codes "a"
 
 -- a node alone wins, publishes, and commits
 abbrev alone : Schedule
-alone = record { nodes = a ∷ []; initial = a ∷ []; voting_only = []; lines = Boot a ∷ StartJoin a a 1 ∷ Deliver a 1 ∷ Value a 1 (codes "x") (a ∷ []) ∷ Deliver a 2 ∷ Deliver a 3 ∷ Deliver a 4 ∷ [] }
+alone = record { nodes = a ∷ []; initial = a ∷ []; voting_only = []; second = false; lines = Boot a ∷ StartJoin a a 1 ∷ Deliver a 1 ∷ Value a 1 (codes "x") (a ∷ []) ∷ Deliver a 2 ∷ Deliver a 3 ∷ Deliver a 4 ∷ [] }
 
 one_win : wins_of (trace_parts alone) ≡ record { node = a; term = 1 } ∷ []
 unfolding join_checked eight_bytes two_bytes sized framed laid size_at bodies_from bodies_of generations_of misplaced_from epoch_in first_words schedule rounds compress hash_after digest_bytes sha256 guarded guard_fault body_of change_tagged with_change folded_from
@@ -44,7 +44,7 @@ abbrev prefix : List Line
 prefix = Boot a ∷ Fuse a 3 Kept ∷ StartJoin a a 1 ∷ []
 
 abbrev struck : List Line → Schedule
-struck more = record { nodes = a ∷ []; initial = a ∷ []; voting_only = []; lines = prefix ++ more }
+struck more = record { nodes = a ∷ []; initial = a ∷ []; voting_only = []; second = false; lines = prefix ++ more }
 
 abbrev booted : History
 booted = Next NoEntries a (Bootstrap (a ∷ [])) (Answered (Taken None false))

@@ -140,6 +140,7 @@ more_lines s is ls fits = record {
   some_initial = is.some_initial;
   listed = is.listed;
   voting_only = is.voting_only;
+  second = is.second;
   lines = both_fit (FitsLine Core s.nodes) s.lines ls is.lines fits;
 }
 

@@ -1,5 +1,5 @@
 -- A replay and what observes it, line by line.
-use Rattle.std.proofs.Common.{◌≡◌, ℕ, ◌+◌, ◌<◌, ◌≤◌, List, [], ◌∷◌, ◌++◌, length, take, get_or, refl, sym, ap, subst, ◌∙◌, append-nil, append_assoc}
+use Rattle.std.proofs.Common.{◌≡◌, ℕ, ◌+◌, ◌<◌, ◌≤◌, Bool, List, [], ◌∷◌, ◌++◌, length, take, get_or, refl, sym, ap, subst, ◌∙◌, append-nil, append_assoc}
 use Rattle.std.proofs.lemmas.List.{take_all, take_more}
 use Rattle.voting_config.specs.Ids.{Id}
 use Rattle.wire_frames.specs.declared.frame.Frame.{Frame}
@@ -60,29 +60,29 @@ whole_tallied saw ids initial nodes messages tally lines all i are past m = subs
 
 -- ---- whole nodes
 
-cluster_more : (nodes initial voting_only : List Id) (c : Cluster) (ls : List Line) (l : Line) → cluster_from nodes initial voting_only c (ls ++ l ∷ []) ≡ cluster_after nodes initial voting_only (cluster_from nodes initial voting_only c ls) l
-cluster_more nodes initial voting_only c [] l = refl
-cluster_more nodes initial voting_only c (x ∷ ls) l = cluster_more nodes initial voting_only (cluster_after nodes initial voting_only c x) ls l
+cluster_more : (nodes initial voting_only : List Id) (second : Bool) (c : Cluster) (ls : List Line) (l : Line) → cluster_from nodes initial voting_only second c (ls ++ l ∷ []) ≡ cluster_after nodes initial voting_only second (cluster_from nodes initial voting_only second c ls) l
+cluster_more nodes initial voting_only second c [] l = refl
+cluster_more nodes initial voting_only second c (x ∷ ls) l = cluster_more nodes initial voting_only second (cluster_after nodes initial voting_only second c x) ls l
 
-cluster_trace_more : (nodes initial voting_only : List Id) (c : Cluster) (ls : List Line) (l : Line) → cluster_trace nodes initial voting_only c (ls ++ l ∷ []) ≡ cluster_trace nodes initial voting_only c ls ++ cluster_line nodes initial voting_only (cluster_from nodes initial voting_only c ls) l
-cluster_trace_more nodes initial voting_only c [] l = append-nil (cluster_line nodes initial voting_only c l)
-cluster_trace_more nodes initial voting_only c (x ∷ ls) l =
-    ap (λ (t : List ℕ). cluster_line nodes initial voting_only c x ++ t) (cluster_trace_more nodes initial voting_only (cluster_after nodes initial voting_only c x) ls l)
-    ∙ sym (append_assoc (cluster_line nodes initial voting_only c x) (cluster_trace nodes initial voting_only (cluster_after nodes initial voting_only c x) ls) _)
+cluster_trace_more : (nodes initial voting_only : List Id) (second : Bool) (c : Cluster) (ls : List Line) (l : Line) → cluster_trace nodes initial voting_only second c (ls ++ l ∷ []) ≡ cluster_trace nodes initial voting_only second c ls ++ cluster_line nodes initial voting_only second (cluster_from nodes initial voting_only second c ls) l
+cluster_trace_more nodes initial voting_only second c [] l = append-nil (cluster_line nodes initial voting_only second c l)
+cluster_trace_more nodes initial voting_only second c (x ∷ ls) l =
+    ap (λ (t : List ℕ). cluster_line nodes initial voting_only second c x ++ t) (cluster_trace_more nodes initial voting_only second (cluster_after nodes initial voting_only second c x) ls l)
+    ∙ sym (append_assoc (cluster_line nodes initial voting_only second c x) (cluster_trace nodes initial voting_only second (cluster_after nodes initial voting_only second c x) ls) _)
 
-module _ {T : Type 0} (saw : T → List ℕ → Type 0) (ids initial voting_only : List Id) (nodes more : List ClusterNode) (frames sent : List Frame) (tally later : T) (none text : List ℕ) (done : List Line) (line : Line) where
-  pub one_more_cluster : none ≡ [] → ClusterTallied saw ids initial voting_only nodes frames tally done → WritesClusterLine ids initial voting_only nodes more frames sent none text line → Adds saw tally later text → ClusterTallied saw ids initial voting_only more sent later (done ++ line ∷ [])
+module _ {T : Type 0} (saw : T → List ℕ → Type 0) (ids initial voting_only : List Id) (second : Bool) (nodes more : List ClusterNode) (frames sent : List Frame) (tally later : T) (none text : List ℕ) (done : List Line) (line : Line) where
+  pub one_more_cluster : none ≡ [] → ClusterTallied saw ids initial voting_only second nodes frames tally done → WritesClusterLine ids initial voting_only second nodes more frames sent none text line → Adds saw tally later text → ClusterTallied saw ids initial voting_only second more sent later (done ++ line ∷ [])
   one_more_cluster empty m writes adds =
-      let first : Cluster = fresh_cluster ids initial voting_only in
-      let c : Cluster = cluster_from ids initial voting_only first done in
-      let step = (subst (λ (x : List ℕ). WritesClusterLine ids initial voting_only nodes more frames sent x text line) empty writes) c m.stands in
+      let first : Cluster = fresh_cluster ids initial voting_only second in
+      let c : Cluster = cluster_from ids initial voting_only second first done in
+      let step = (subst (λ (x : List ℕ). WritesClusterLine ids initial voting_only second nodes more frames sent x text line) empty writes) c m.stands in
       record {
-        stands = subst (λ (d : Cluster). ClusterFor ids initial voting_only more sent d) (sym (cluster_more ids initial voting_only first done line)) step.stands;
+        stands = subst (λ (d : Cluster). ClusterFor ids initial voting_only second more sent d) (sym (cluster_more ids initial voting_only second first done line)) step.stands;
         tallies = subst (λ (t : List ℕ). saw later t)
-            (ap (λ (t : List ℕ). cluster_trace ids initial voting_only first done ++ t) step.written ∙ sym (cluster_trace_more ids initial voting_only first done line))
-            (adds (cluster_trace ids initial voting_only first done) (cluster_trace_ends ids initial voting_only first done) m.tallies);
+            (ap (λ (t : List ℕ). cluster_trace ids initial voting_only second first done ++ t) step.written ∙ sym (cluster_trace_more ids initial voting_only second first done line))
+            (adds (cluster_trace ids initial voting_only second first done) (cluster_trace_ends ids initial voting_only second first done) m.tallies);
       }
 
-pub whole_cluster_tallied : {T : Type 0} (saw : T → List ℕ → Type 0) (ids initial voting_only : List Id) (nodes : List ClusterNode) (frames : List Frame) (tally : T) (lines all : List Line) (i : ℕ) → lines ≡ all → length lines ≤ i
-    → ClusterTallied saw ids initial voting_only nodes frames tally (take i lines) → saw tally (cluster_trace ids initial voting_only (fresh_cluster ids initial voting_only) all)
-whole_cluster_tallied saw ids initial voting_only nodes frames tally lines all i are past m = subst (λ (ls : List Line). saw tally (cluster_trace ids initial voting_only (fresh_cluster ids initial voting_only) ls)) (all_taken lines i past ∙ are) m.tallies
+pub whole_cluster_tallied : {T : Type 0} (saw : T → List ℕ → Type 0) (ids initial voting_only : List Id) (second : Bool) (nodes : List ClusterNode) (frames : List Frame) (tally : T) (lines all : List Line) (i : ℕ) → lines ≡ all → length lines ≤ i
+    → ClusterTallied saw ids initial voting_only second nodes frames tally (take i lines) → saw tally (cluster_trace ids initial voting_only second (fresh_cluster ids initial voting_only second) all)
+whole_cluster_tallied saw ids initial voting_only second nodes frames tally lines all i are past m = subst (λ (ls : List Line). saw tally (cluster_trace ids initial voting_only second (fresh_cluster ids initial voting_only second) ls)) (all_taken lines i past ∙ are) m.tallies

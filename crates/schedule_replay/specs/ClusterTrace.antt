@@ -1,5 +1,5 @@
 -- Part of the statement: the trace of a schedule of whole nodes.
-use Rattle.std.specs.Prelude.{ℕ, Option, None, Some, List, [], ◌∷◌, ◌++◌, length, codes, if◌then◌else◌}
+use Rattle.std.specs.Prelude.{ℕ, Bool, Option, None, Some, List, [], ◌∷◌, ◌++◌, length, codes, if◌then◌else◌}
 use Rattle.voting_config.specs.Ids.{Id, same}
 use Rattle.wire_frames.specs.declared.frame.Frame.{Frame}
 use Rattle.world_model.specs.Acts.{NodeHistory}
@@ -51,15 +51,15 @@ module _ (s : Settings) where
       restart_text s.me (own_world s c)
       ++ (if needs_opening (own_world s c) then start_shown (opening (own_world s c).disk).ended c else [])
 
-module _ (nodes initial voting_only : List Id) where
+module _ (nodes initial voting_only : List Id) (second : Bool) where
   -- what a line writes after its echo; a line of level core, which no schedule of level node has, writes nothing
   abbrev pub line_shown : Cluster → Line → List ℕ
-  line_shown c (line.Tick n now word) = event_shown_if_up (settings_of nodes initial voting_only n) c (Tick now word)
-  line_shown c (line.Client n bytes) = event_shown_if_up (settings_of nodes initial voting_only n) c (LineCame 0 bytes)
-  line_shown c (line.Disconnect n peer) = event_shown_if_up (settings_of nodes initial voting_only n) c (PeerGone peer)
-  line_shown c (line.Deliver n number) = frame_shown (settings_of nodes initial voting_only n) c (frame_at c number)
+  line_shown c (line.Tick n now word) = event_shown_if_up (settings_of nodes initial voting_only second n) c (Tick now word)
+  line_shown c (line.Client n bytes) = event_shown_if_up (settings_of nodes initial voting_only second n) c (LineCame 0 bytes)
+  line_shown c (line.Disconnect n peer) = event_shown_if_up (settings_of nodes initial voting_only second n) c (PeerGone peer)
+  line_shown c (line.Deliver n number) = frame_shown (settings_of nodes initial voting_only second n) c (frame_at c number)
   line_shown c (line.Crash n way) = stop_text n (node_world c.world n)
-  line_shown c (line.Restart n) = restart_shown (settings_of nodes initial voting_only n) c
+  line_shown c (line.Restart n) = restart_shown (settings_of nodes initial voting_only second n) c
   line_shown c (line.Fuse n count way) = []
   line_shown c (line.Fail n count) = []
   line_shown c (line.Boot n) = []
@@ -71,7 +71,7 @@ module _ (nodes initial voting_only : List Id) where
 
   abbrev pub trace_from : Cluster → List Line → List ℕ
   trace_from c [] = []
-  trace_from c (l ∷ ls) = trace_line c l ++ trace_from (after nodes initial voting_only c l) ls
+  trace_from c (l ∷ ls) = trace_line c l ++ trace_from (after nodes initial voting_only second c l) ls
 
 abbrev pub trace : Schedule → List ℕ
-trace s = trace_from s.nodes s.initial s.voting_only (fresh_cluster s.nodes s.initial s.voting_only) s.lines
+trace s = trace_from s.nodes s.initial s.voting_only s.second (fresh_cluster s.nodes s.initial s.voting_only s.second) s.lines

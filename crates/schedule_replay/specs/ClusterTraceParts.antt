@@ -1,6 +1,6 @@
 -- Part of the statement: the parts of the trace of a schedule of whole nodes. They need not be read: ClusterLaws says what `cluster_parts`
 -- are.
-use Rattle.std.specs.Prelude.{ℕ, Option, None, Some, List, [], ◌∷◌, ◌++◌, length, map, if◌then◌else◌}
+use Rattle.std.specs.Prelude.{ℕ, Bool, Option, None, Some, List, [], ◌∷◌, ◌++◌, length, map, if◌then◌else◌}
 use Rattle.voting_config.specs.Ids.{Id, same}
 use Rattle.wire_frames.specs.declared.frame.Frame.{Frame}
 use Rattle.world_model.specs.Histories.{History, Next, node_history, sent}
@@ -65,14 +65,14 @@ module _ (s : Settings) where
 
 -- ---- lines
 
-module _ (nodes initial voting_only : List Id) where
+module _ (nodes initial voting_only : List Id) (second : Bool) where
   abbrev pub line_parts : Cluster → Line → List ClusterPart
-  line_parts c (line.Tick n now word) = event_parts_if_up (settings_of nodes initial voting_only n) c (Tick now word)
-  line_parts c (line.Client n bytes) = event_parts_if_up (settings_of nodes initial voting_only n) c (LineCame 0 bytes)
-  line_parts c (line.Disconnect n peer) = event_parts_if_up (settings_of nodes initial voting_only n) c (PeerGone peer)
-  line_parts c (line.Deliver n number) = frame_parts (settings_of nodes initial voting_only n) c (frame_at c number)
+  line_parts c (line.Tick n now word) = event_parts_if_up (settings_of nodes initial voting_only second n) c (Tick now word)
+  line_parts c (line.Client n bytes) = event_parts_if_up (settings_of nodes initial voting_only second n) c (LineCame 0 bytes)
+  line_parts c (line.Disconnect n peer) = event_parts_if_up (settings_of nodes initial voting_only second n) c (PeerGone peer)
+  line_parts c (line.Deliver n number) = frame_parts (settings_of nodes initial voting_only second n) c (frame_at c number)
   line_parts c (line.Crash n way) = (if c.world.down n then Shared (WasDown n) else Shared (WentDown n)) ∷ []
-  line_parts c (line.Restart n) = restart_parts (settings_of nodes initial voting_only n) c
+  line_parts c (line.Restart n) = restart_parts (settings_of nodes initial voting_only second n) c
   line_parts c (line.Fuse n count way) = []
   line_parts c (line.Fail n count) = []
   line_parts c (line.Boot n) = []
@@ -81,7 +81,7 @@ module _ (nodes initial voting_only : List Id) where
 
   abbrev pub parts_from : Cluster → List Line → List ClusterPart
   parts_from c [] = []
-  parts_from c (l ∷ ls) = Shared (Echo l) ∷ (line_parts c l ++ parts_from (after nodes initial voting_only c l) ls)
+  parts_from c (l ∷ ls) = Shared (Echo l) ∷ (line_parts c l ++ parts_from (after nodes initial voting_only second c l) ls)
 
 abbrev pub cluster_parts : Schedule → List ClusterPart
-cluster_parts s = parts_from s.nodes s.initial s.voting_only (fresh_cluster s.nodes s.initial s.voting_only) s.lines
+cluster_parts s = parts_from s.nodes s.initial s.voting_only s.second (fresh_cluster s.nodes s.initial s.voting_only s.second) s.lines

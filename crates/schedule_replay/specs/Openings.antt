@@ -1,5 +1,5 @@
 -- For the contracts inside: what an opening of a node's journal makes of the node.
-use Rattle.std.specs.Prelude.{◌≡◌, false, true, ℕ, List, length}
+use Rattle.std.specs.Prelude.{◌≡◌, Bool, false, true, ℕ, List, length}
 use Rattle.cluster_state.specs.Initial.{empty_record}
 use Rattle.wire_frames.specs.declared.frame.Frame.{Frame}
 use Rattle.world_model.specs.declared.acts.Act.TheVariants.{Open as OpenAct}
@@ -43,18 +43,18 @@ pub record ClosedFor (s : Settings) (c : ClusterNode) (fuse : MemFuse) (own : Ow
   pub life : LifeFor s own.life own.node false
 
 -- the node was opened again, of the nodes and with the initial names of a schedule
-abbrev pub Restarts : (nodes initial voting_only : List Id) → (old new : ClusterNode) → MemFuse → (frames frames_now : List Frame)
+abbrev pub Restarts : (nodes initial voting_only : List Id) (second : Bool) → (old new : ClusterNode) → MemFuse → (frames frames_now : List Frame)
     → (was now : List ℕ) → Type 0
-Restarts nodes initial voting_only old new fuse frames frames_now was now =
-    let s : Settings = settings_of nodes initial voting_only old.me in
+Restarts nodes initial voting_only second old new fuse frames frames_now was now =
+    let s : Settings = settings_of nodes initial voting_only second old.me in
     (own : Own) → ClosedFor s old fuse own
     → OwnDone s new (own_restart s own) frames frames_now (own_restart_frames s own) was now (own_restart_results s (length frames) own)
 
 -- the same of a node that was opened only where its journal was closed
-abbrev pub Reopens : (nodes initial voting_only : List Id) → (old new : ClusterNode) → (frames frames_now : List Frame) → (was now : List ℕ)
+abbrev pub Reopens : (nodes initial voting_only : List Id) (second : Bool) → (old new : ClusterNode) → (frames frames_now : List Frame) → (was now : List ℕ)
     → Type 0
-Reopens nodes initial voting_only old new frames frames_now was now =
-    let s : Settings = settings_of nodes initial voting_only old.me in
+Reopens nodes initial voting_only second old new frames frames_now was now =
+    let s : Settings = settings_of nodes initial voting_only second old.me in
     (own : Own) → NodeFor s old own false
     → OwnDone s new (own_restart s own) frames frames_now (own_restart_frames s own) was now (own_restart_results s (length frames) own)
 

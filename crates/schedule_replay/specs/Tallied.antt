@@ -1,5 +1,5 @@
 -- For the contracts inside: where a replay and what observes its trace stand after some lines.
-use Rattle.std.specs.Prelude.{ℕ, List}
+use Rattle.std.specs.Prelude.{ℕ, Bool, List}
 use Rattle.voting_config.specs.Ids.{Id}
 use Rattle.world_model.specs.declared.acts.Message.{Message}
 use Rattle.wire_frames.specs.declared.frame.Frame.{Frame}
@@ -21,8 +21,8 @@ pub record Tallied {T : Type 0} (saw : T → List ℕ → Type 0) (ids initial :
   pub tallies : saw observer (trace_from initial fresh_world done)
 
 -- and so of whole nodes
-pub record ClusterTallied {T : Type 0} (saw : T → List ℕ → Type 0) (ids initial voting_only : List Id) (nodes : List ClusterNode)
+pub record ClusterTallied {T : Type 0} (saw : T → List ℕ → Type 0) (ids initial voting_only : List Id) (second : Bool) (nodes : List ClusterNode)
     (frames : List Frame) (observer : T) (done : List Line) : Type 0 where
-  pub stands : ClusterFor ids initial voting_only nodes frames
-      (cluster_from ids initial voting_only (fresh_cluster ids initial voting_only) done)
-  pub tallies : saw observer (cluster_trace ids initial voting_only (fresh_cluster ids initial voting_only) done)
+  pub stands : ClusterFor ids initial voting_only second nodes frames
+      (cluster_from ids initial voting_only second (fresh_cluster ids initial voting_only second) done)
+  pub tallies : saw observer (cluster_trace ids initial voting_only second (fresh_cluster ids initial voting_only second) done)

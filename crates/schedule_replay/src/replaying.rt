@@ -132,6 +132,7 @@ fn replay_nodes<T: Observer, S: Sink>(
         &schedule.nodes,
         &schedule.initial,
         &schedule.voting_only,
+        schedule.second,
     ) else {
         return Err(ReplayError::Memory);
     };

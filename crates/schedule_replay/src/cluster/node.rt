@@ -20,6 +20,7 @@ use crate::cluster::stepping::{Ended, OpenNode, step};
 use cluster_state::SharedState;
 use coordinator::{Coordinator, Entries, Sealed};
 use event_text::{write_event, write_struck_event};
+use master_tasks::Policy;
 use policy_model::{Event, NodeIds, Settings};
 use replay_node::{crashed, empty_disk, restarted, stay_down};
 use state_journal::{Keeper, OpenError, StateJournal};
@@ -180,12 +181,13 @@ impl ClusterNode {
         ids: &NodeSet,
         initial: &NodeSet,
         voting_only: &NodeSet,
+        second: bool,
     ) -> Result<ClusterNode, AllocError>
         ensures { IfOk result
-            (λ c. NodeFor (settings_in ids.now initial.now voting_only.now me) c
-            (fresh_own (settings_in ids.now initial.now voting_only.now me)) false) }
+            (λ c. NodeFor (settings_in ids.now initial.now voting_only.now second me) c
+            (fresh_own (settings_in ids.now initial.now voting_only.now second me)) false) }
     {
-        let mut node = first_node(alloc, me, ids, initial, voting_only)?;
+        let mut node = first_node(alloc, me, ids, initial, voting_only, second)?;
         start(&mut node, alloc)?;
         Ok(ClusterNode {
             me,
@@ -242,22 +244,32 @@ impl ClusterNode {
         ids: &NodeSet,
         initial: &NodeSet,
         voting_only: &NodeSet,
+        second: bool,
         frames: &mut Vec<Frame>,
         text: &mut Text,
     ) -> Result<(), AllocError>
-        requires { (own : Own) × NodeFor (settings_in ids.now initial.now voting_only.now self.old.me) self.old own false }
+        requires { (own : Own) × NodeFor (settings_in ids.now initial.now voting_only.now second self.old.me) self.old own false }
         ensures { OnOk result
-            (Reopens ids.now initial.now voting_only.now self.old self.new frames.old.items frames.new.items text.old text.new) }
+            (Reopens ids.now initial.now voting_only.now second self.old self.new frames.old.items frames.new.items text.old text.new) }
     {
         match take_slot(&mut self.slot, alloc) {
-            Slot::Down(fuse) => self.open(alloc, ids, initial, voting_only, fuse, frames, text),
+            Slot::Down(fuse) => self.open(
+                alloc,
+                ids,
+                initial,
+                voting_only,
+                second,
+                fuse,
+                frames,
+                text,
+            ),
             Slot::Open(node) => {
                 if !node.keeper().stopped() {
                     self.slot = Slot::Open(node);
                     return write_up_line(text, self.me);
                 }
                 let fuse = node.into_keeper().into_disk();
-                self.open(alloc, ids, initial, voting_only, fuse, frames, text)
+                self.open(alloc, ids, initial, voting_only, second, fuse, frames, text)
             }
         }
     }
@@ -269,18 +281,19 @@ impl ClusterNode {
         ids: &NodeSet,
         initial: &NodeSet,
         voting_only: &NodeSet,
+        second: bool,
         fuse: Fuse<MemDisks>,
         frames: &mut Vec<Frame>,
         text: &mut Text,
     ) -> Result<(), AllocError>
-        requires { (own : Own) × ClosedFor (settings_in ids.now initial.now voting_only.now self.old.me) self.old fuse own }
+        requires { (own : Own) × ClosedFor (settings_in ids.now initial.now voting_only.now second self.old.me) self.old fuse own }
         ensures { OnOk result
-            (Restarts ids.now initial.now voting_only.now self.old self.new fuse frames.old.items frames.new.items text.old text.new) }
+            (Restarts ids.now initial.now voting_only.now second self.old self.new fuse frames.old.items frames.new.items text.old text.new) }
     {
         match StateJournal::open(alloc, fuse) {
             Ok(journal) => {
                 write_record(text, self.me, journal.kept())?;
-                let settings = settings_of(alloc, self.me, ids, initial, voting_only)?;
+                let settings = settings_of(alloc, self.me, ids, initial, voting_only, second)?;
                 self.slot = Slot::Open(node_over(alloc, settings, journal));
                 self.event(alloc, Event::Start, frames, text)
             }
@@ -301,8 +314,9 @@ fn settings_of(
     ids: &NodeSet,
     initial: &NodeSet,
     voting_only: &NodeSet,
+    second: bool,
 ) -> Result<Settings, AllocError>
-    ensures { IfOk result (λ settings. settings ≡ settings_in ids.now initial.now voting_only.now me) }
+    ensures { IfOk result (λ settings. settings ≡ settings_in ids.now initial.now voting_only.now second me) }
 {
     let mut others = ids.copy();
     others.remove(me);
@@ -313,7 +327,10 @@ fn settings_of(
         peers: NodeIds::of(peers),
         initial: initial.copy(),
         voting_only: voting_only.copy(),
-        shrink: true,
+        policy: Policy {
+            shrink: true,
+            second,
+        },
     })
 }
 
@@ -324,10 +341,11 @@ fn first_node(
     ids: &NodeSet,
     initial: &NodeSet,
     voting_only: &NodeSet,
+    second: bool,
 ) -> Result<OpenNode, AllocError>
-    ensures { IfOk result (λ node. OpenFor (settings_in ids.now initial.now voting_only.now me) node NotBegun fresh_node) }
+    ensures { IfOk result (λ node. OpenFor (settings_in ids.now initial.now voting_only.now second me) node NotBegun fresh_node) }
 {
-    let settings = settings_of(alloc, me, ids, initial, voting_only)?;
+    let settings = settings_of(alloc, me, ids, initial, voting_only, second)?;
     let Ok(journal) = StateJournal::open(alloc, empty_disk(alloc)) else {
         return Err(AllocError);
     };

@@ -46,12 +46,13 @@ impl ClusterReplayer {
         ids: &NodeSet,
         initial: &NodeSet,
         voting_only: &NodeSet,
+        second: bool,
     ) -> Result<ClusterReplayer, AllocError>
         ensures { IfOk result
-            (λ r. ClusterFor ids.now initial.now voting_only.now r.nodes.items r.frames.items
-            (fresh_cluster ids.now initial.now voting_only.now)) }
+            (λ r. ClusterFor ids.now initial.now voting_only.now second r.nodes.items r.frames.items
+            (fresh_cluster ids.now initial.now voting_only.now second)) }
     {
-        let nodes = fresh_nodes(alloc, ids, initial, voting_only)?;
+        let nodes = fresh_nodes(alloc, ids, initial, voting_only, second)?;
         // For the proof alone: a set ascends and has 64 ids at most.
         let _ = ids.as_slice();
         Ok(ClusterReplayer {
@@ -70,9 +71,9 @@ impl ClusterReplayer {
     ) -> Result<(), AllocError>
         requires fits { FitsLine Node schedule.now.nodes line.now }
         requires stands { (c : Cluster)
-            × ClusterFor schedule.now.nodes schedule.now.initial schedule.now.voting_only self.old.nodes.items self.old.frames.items c }
+            × ClusterFor schedule.now.nodes schedule.now.initial schedule.now.voting_only schedule.now.second self.old.nodes.items self.old.frames.items c }
         ensures done { OnOk result
-            (WritesLine schedule.now.nodes schedule.now.initial schedule.now.voting_only self.old.nodes.items self.new.nodes.items
+            (WritesLine schedule.now.nodes schedule.now.initial schedule.now.voting_only schedule.now.second self.old.nodes.items self.new.nodes.items
             self.old.frames.items self.new.frames.items text.old text.new line.now) }
     {
         write_echo(text, line)?;
@@ -106,13 +107,13 @@ impl ClusterReplayer {
     ) -> Result<(), AllocError>
         requires listed { has n schedule.now.nodes ≡ true }
         requires stands { (c : Cluster)
-            × ClusterFor schedule.now.nodes schedule.now.initial schedule.now.voting_only self.old.nodes.items self.old.frames.items c }
+            × ClusterFor schedule.now.nodes schedule.now.initial schedule.now.voting_only schedule.now.second self.old.nodes.items self.old.frames.items c }
         ensures done { OnOk result
-            (DoesLine schedule.now.nodes schedule.now.initial schedule.now.voting_only self.old.nodes.items self.new.nodes.items
+            (DoesLine schedule.now.nodes schedule.now.initial schedule.now.voting_only schedule.now.second self.old.nodes.items self.new.nodes.items
             self.old.frames.items self.new.frames.items text.old text.new
-            (λ c. after_event_if_up (settings_of schedule.now.nodes schedule.now.initial schedule.now.voting_only n) c
+            (λ c. after_event_if_up (settings_of schedule.now.nodes schedule.now.initial schedule.now.voting_only schedule.now.second n) c
             (event.Tick now word))
-            (λ c. event_shown_if_up (settings_of schedule.now.nodes schedule.now.initial schedule.now.voting_only n) c
+            (λ c. event_shown_if_up (settings_of schedule.now.nodes schedule.now.initial schedule.now.voting_only schedule.now.second n) c
             (event.Tick now word))) }
     {
         self.event(alloc, schedule, n, Event::Tick { now, word }, text)
@@ -129,13 +130,13 @@ impl ClusterReplayer {
     ) -> Result<(), AllocError>
         requires listed { has n schedule.now.nodes ≡ true }
         requires stands { (c : Cluster)
-            × ClusterFor schedule.now.nodes schedule.now.initial schedule.now.voting_only self.old.nodes.items self.old.frames.items c }
+            × ClusterFor schedule.now.nodes schedule.now.initial schedule.now.voting_only schedule.now.second self.old.nodes.items self.old.frames.items c }
         ensures done { OnOk result
-            (DoesLine schedule.now.nodes schedule.now.initial schedule.now.voting_only self.old.nodes.items self.new.nodes.items
+            (DoesLine schedule.now.nodes schedule.now.initial schedule.now.voting_only schedule.now.second self.old.nodes.items self.new.nodes.items
             self.old.frames.items self.new.frames.items text.old text.new
-            (λ c. after_event_if_up (settings_of schedule.now.nodes schedule.now.initial schedule.now.voting_only n) c
+            (λ c. after_event_if_up (settings_of schedule.now.nodes schedule.now.initial schedule.now.voting_only schedule.now.second n) c
             (event.Disconnected peer))
-            (λ c. event_shown_if_up (settings_of schedule.now.nodes schedule.now.initial schedule.now.voting_only n) c
+            (λ c. event_shown_if_up (settings_of schedule.now.nodes schedule.now.initial schedule.now.voting_only schedule.now.second n) c
             (event.Disconnected peer))) }
     {
         self.event(alloc, schedule, n, Event::Disconnected { peer }, text)
@@ -152,13 +153,13 @@ impl ClusterReplayer {
     ) -> Result<(), AllocError>
         requires listed { has n schedule.now.nodes ≡ true }
         requires stands { (c : Cluster)
-            × ClusterFor schedule.now.nodes schedule.now.initial schedule.now.voting_only self.old.nodes.items self.old.frames.items c }
+            × ClusterFor schedule.now.nodes schedule.now.initial schedule.now.voting_only schedule.now.second self.old.nodes.items self.old.frames.items c }
         ensures done { OnOk result
-            (DoesLine schedule.now.nodes schedule.now.initial schedule.now.voting_only self.old.nodes.items self.new.nodes.items
+            (DoesLine schedule.now.nodes schedule.now.initial schedule.now.voting_only schedule.now.second self.old.nodes.items self.new.nodes.items
             self.old.frames.items self.new.frames.items text.old text.new
-            (λ c. after_event_if_up (settings_of schedule.now.nodes schedule.now.initial schedule.now.voting_only n) c
+            (λ c. after_event_if_up (settings_of schedule.now.nodes schedule.now.initial schedule.now.voting_only schedule.now.second n) c
             (event.Client 0 bytes.now))
-            (λ c. event_shown_if_up (settings_of schedule.now.nodes schedule.now.initial schedule.now.voting_only n) c
+            (λ c. event_shown_if_up (settings_of schedule.now.nodes schedule.now.initial schedule.now.voting_only schedule.now.second n) c
             (event.Client 0 bytes.now))) }
     {
         let line = ClientLine::of(Vec::from_slice(alloc, bytes.as_slice())?);
@@ -178,12 +179,12 @@ impl ClusterReplayer {
         requires fit { IsFitEvent event }
         requires later { is_start event ≡ false }
         requires stands { (c : Cluster)
-            × ClusterFor schedule.now.nodes schedule.now.initial schedule.now.voting_only self.old.nodes.items self.old.frames.items c }
+            × ClusterFor schedule.now.nodes schedule.now.initial schedule.now.voting_only schedule.now.second self.old.nodes.items self.old.frames.items c }
         ensures done { OnOk result
-            (DoesLine schedule.now.nodes schedule.now.initial schedule.now.voting_only self.old.nodes.items self.new.nodes.items
+            (DoesLine schedule.now.nodes schedule.now.initial schedule.now.voting_only schedule.now.second self.old.nodes.items self.new.nodes.items
             self.old.frames.items self.new.frames.items text.old text.new
-            (λ c. after_event_if_up (settings_of schedule.now.nodes schedule.now.initial schedule.now.voting_only n) c event)
-            (λ c. event_shown_if_up (settings_of schedule.now.nodes schedule.now.initial schedule.now.voting_only n) c event)) }
+            (λ c. after_event_if_up (settings_of schedule.now.nodes schedule.now.initial schedule.now.voting_only schedule.now.second n) c event)
+            (λ c. event_shown_if_up (settings_of schedule.now.nodes schedule.now.initial schedule.now.voting_only schedule.now.second n) c event)) }
     {
         let place = place_of(schedule.nodes.as_slice(), n);
         let nodes = self.nodes.as_mut_slice();
@@ -200,13 +201,13 @@ impl ClusterReplayer {
     ) -> Result<(), AllocError>
         requires listed { has n schedule.now.nodes ≡ true }
         requires stands { (c : Cluster)
-            × ClusterFor schedule.now.nodes schedule.now.initial schedule.now.voting_only self.old.nodes.items self.old.frames.items c }
+            × ClusterFor schedule.now.nodes schedule.now.initial schedule.now.voting_only schedule.now.second self.old.nodes.items self.old.frames.items c }
         requires positive { 0 < ordinal }
         ensures done { OnOk result
-            (DoesLine schedule.now.nodes schedule.now.initial schedule.now.voting_only self.old.nodes.items self.new.nodes.items
+            (DoesLine schedule.now.nodes schedule.now.initial schedule.now.voting_only schedule.now.second self.old.nodes.items self.new.nodes.items
             self.old.frames.items self.new.frames.items text.old text.new
-            (λ c. after_frame (settings_of schedule.now.nodes schedule.now.initial schedule.now.voting_only n) c (frame_at c ordinal))
-            (λ c. frame_shown (settings_of schedule.now.nodes schedule.now.initial schedule.now.voting_only n) c (frame_at c ordinal))) }
+            (λ c. after_frame (settings_of schedule.now.nodes schedule.now.initial schedule.now.voting_only schedule.now.second n) c (frame_at c ordinal))
+            (λ c. frame_shown (settings_of schedule.now.nodes schedule.now.initial schedule.now.voting_only schedule.now.second n) c (frame_at c ordinal))) }
     {
         let runs = self.runs(schedule, n);
         match self.frames.as_slice().get((ordinal - 1) as usize) {
@@ -234,9 +235,9 @@ impl ClusterReplayer {
     fn runs(&self, schedule: &Schedule, n: NodeId) -> bool
         requires listed { has n schedule.now.nodes ≡ true }
         requires stands { (c : Cluster)
-            × ClusterFor schedule.now.nodes schedule.now.initial schedule.now.voting_only self.now.nodes.items self.now.frames.items c }
+            × ClusterFor schedule.now.nodes schedule.now.initial schedule.now.voting_only schedule.now.second self.now.nodes.items self.now.frames.items c }
         ensures { (c : Cluster)
-            → AllFor schedule.now.nodes schedule.now.initial schedule.now.voting_only schedule.now.nodes self.now.nodes.items c
+            → AllFor schedule.now.nodes schedule.now.initial schedule.now.voting_only schedule.now.second schedule.now.nodes self.now.nodes.items c
             → result ≡ not (needs_opening (node_world c.world n)) }
     {
         let place = place_of(schedule.nodes.as_slice(), n);
@@ -254,9 +255,9 @@ impl ClusterReplayer {
     ) -> Result<(), AllocError>
         requires listed { has n schedule.now.nodes ≡ true }
         requires stands { (c : Cluster)
-            × ClusterFor schedule.now.nodes schedule.now.initial schedule.now.voting_only self.old.nodes.items self.old.frames.items c }
+            × ClusterFor schedule.now.nodes schedule.now.initial schedule.now.voting_only schedule.now.second self.old.nodes.items self.old.frames.items c }
         ensures done { OnOk result
-            (DoesLine schedule.now.nodes schedule.now.initial schedule.now.voting_only self.old.nodes.items self.new.nodes.items
+            (DoesLine schedule.now.nodes schedule.now.initial schedule.now.voting_only schedule.now.second self.old.nodes.items self.new.nodes.items
             self.old.frames.items self.new.frames.items text.old text.new (λ c. record c { world = crashed c.world n way })
             (λ c. stop_text n (node_world c.world n))) }
     {
@@ -274,12 +275,12 @@ impl ClusterReplayer {
     ) -> Result<(), AllocError>
         requires listed { has n schedule.now.nodes ≡ true }
         requires stands { (c : Cluster)
-            × ClusterFor schedule.now.nodes schedule.now.initial schedule.now.voting_only self.old.nodes.items self.old.frames.items c }
+            × ClusterFor schedule.now.nodes schedule.now.initial schedule.now.voting_only schedule.now.second self.old.nodes.items self.old.frames.items c }
         ensures done { OnOk result
-            (DoesLine schedule.now.nodes schedule.now.initial schedule.now.voting_only self.old.nodes.items self.new.nodes.items
+            (DoesLine schedule.now.nodes schedule.now.initial schedule.now.voting_only schedule.now.second self.old.nodes.items self.new.nodes.items
             self.old.frames.items self.new.frames.items text.old text.new
-            (λ c. after_restart (settings_of schedule.now.nodes schedule.now.initial schedule.now.voting_only n) c)
-            (λ c. restart_shown (settings_of schedule.now.nodes schedule.now.initial schedule.now.voting_only n) c)) }
+            (λ c. after_restart (settings_of schedule.now.nodes schedule.now.initial schedule.now.voting_only schedule.now.second n) c)
+            (λ c. restart_shown (settings_of schedule.now.nodes schedule.now.initial schedule.now.voting_only schedule.now.second n) c)) }
     {
         let place = place_of(schedule.nodes.as_slice(), n);
         let nodes = self.nodes.as_mut_slice();
@@ -288,6 +289,7 @@ impl ClusterReplayer {
             &schedule.nodes,
             &schedule.initial,
             &schedule.voting_only,
+            schedule.second,
             &mut self.frames,
             text,
         )
@@ -296,9 +298,9 @@ impl ClusterReplayer {
     fn arm(&mut self, schedule: &Schedule, n: NodeId, order: Order)
         requires listed { has n schedule.now.nodes ≡ true }
         requires stands { (c : Cluster)
-            × ClusterFor schedule.now.nodes schedule.now.initial schedule.now.voting_only self.old.nodes.items self.old.frames.items c }
+            × ClusterFor schedule.now.nodes schedule.now.initial schedule.now.voting_only schedule.now.second self.old.nodes.items self.old.frames.items c }
         ensures done { (text : List ℕ)
-            → DoesLine schedule.now.nodes schedule.now.initial schedule.now.voting_only self.old.nodes.items self.new.nodes.items
+            → DoesLine schedule.now.nodes schedule.now.initial schedule.now.voting_only schedule.now.second self.old.nodes.items self.new.nodes.items
             self.old.frames.items self.new.frames.items text text (λ c. record c { world = ordered c.world n order }) (λ c. []) }
     {
         let place = place_of(schedule.nodes.as_slice(), n);
@@ -313,14 +315,15 @@ fn fresh_nodes(
     ids: &NodeSet,
     names: &NodeSet,
     voting_only: &NodeSet,
+    second: bool,
 ) -> Result<Vec<ClusterNode>, AllocError>
     ensures { IfOk result
-        (λ nodes. AllFor ids.now names.now voting_only.now ids.now nodes.items (fresh_cluster ids.now names.now voting_only.now)) }
+        (λ nodes. AllFor ids.now names.now voting_only.now second ids.now nodes.items (fresh_cluster ids.now names.now voting_only.now second)) }
 {
     let mut nodes = Vec::new(alloc);
     let listed = ids.as_slice();
     for id in listed {
-        let node = ClusterNode::new(alloc, *id, ids, names, voting_only)?;
+        let node = ClusterNode::new(alloc, *id, ids, names, voting_only, second)?;
         nodes.push(node)?;
     }
     Ok(nodes)

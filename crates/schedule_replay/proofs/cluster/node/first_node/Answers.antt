@@ -8,7 +8,7 @@ use Rattle.schedule_replay.proofs.cluster.node.first_node.Goals as goal
 
 pub returns : goal.returns
 returns c =
-    let s : Settings = settings_of c.args.ids.now c.args.initial.now c.args.voting_only.now c.args.me in
+    let s : Settings = settings_of c.args.ids.now c.args.initial.now c.args.voting_only.now c.args.second c.args.me in
     let disk = c.empty_disk.ensures in
     let over : OverJournal s c.in-Ok.journal c.node_over.result = subst (λ (t : Settings). OverJournal t c.in-Ok.journal c.node_over.result) c.in_ok-settings.ensures c.node_over.ensures in
     let is : JustOpened c.empty_disk.result c.in-Ok.journal = record { found = c.in-Ok.ensures.found tt; runs = c.in-Ok.ensures.runs; ran = c.in-Ok.ensures.ran tt } in

@@ -25,7 +25,7 @@ unreachable-requires c =
 
 pub event-requires-clause-stands : goal.event-requires-clause-stands
 event-requires-clause-stands c =
-    let s : Settings = settings_of c.args.ids.now c.args.initial.now c.args.voting_only.now c.args.self.now.me in
+    let s : Settings = settings_of c.args.ids.now c.args.initial.now c.args.voting_only.now c.args.second c.args.self.now.me in
     let own : Own = c.requires.0 in
     let over : OverJournal s c.in-Ok.journal c.node_over.result = subst (λ (t : Settings). OverJournal t c.in-Ok.journal c.node_over.result) c.in_ok-settings-in-Ok.ensures c.node_over.ensures in
     let is : JustOpened c.args.fuse c.in-Ok.journal = record { found = c.in-Ok.ensures.found tt; runs = c.in-Ok.ensures.runs; ran = c.in-Ok.ensures.ran tt } in
@@ -34,7 +34,7 @@ event-requires-clause-stands c =
 pub returns-in-Ok : goal.returns-in-Ok
 returns-in-Ok c =
     let old = c.args.self.now in
-    let s : Settings = settings_of c.args.ids.now c.args.initial.now c.args.voting_only.now old.me in
+    let s : Settings = settings_of c.args.ids.now c.args.initial.now c.args.voting_only.now c.args.second old.me in
     let over : OverJournal s c.in-Ok.journal c.node_over.result = subst (λ (t : Settings). OverJournal t c.in-Ok.journal c.node_over.result) c.in_ok-settings-in-Ok.ensures c.node_over.ensures in
     let is : JustOpened c.args.fuse c.in-Ok.journal = record { found = c.in-Ok.ensures.found tt; runs = c.in-Ok.ensures.runs; ran = c.in-Ok.ensures.ran tt } in
     let text : c.write_record.new.text ≡ c.args.text.now ++ record_line old.me c.in-Ok.journal.kept.term c.in-Ok.journal.kept.accepted c.in-Ok.journal.kept.committed =
@@ -45,7 +45,7 @@ returns-in-Ok c =
 pub returns : goal.returns
 returns c =
     let old = c.args.self.now in
-    let s : Settings = settings_of c.args.ids.now c.args.initial.now c.args.voting_only.now old.me in
+    let s : Settings = settings_of c.args.ids.now c.args.initial.now c.args.voting_only.now c.args.second old.me in
     let fuse = c.args.fuse in
     let failed = c.in-Err-Disk.ensures in
     let run = subst (λ (e : OpenError MemFuse). LeavesOnly moment_of left_of fuse (handed_back e) (FoundAsSome (MayLeave fuse))) c.in-Err-Disk.field-0-is (failed.any_moment_err tt) in
