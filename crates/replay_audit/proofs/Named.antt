@@ -184,18 +184,18 @@ named_one : (b : Bool) (x y : ClusterPart) → IsNamed x → IsNamed y → AreNa
 named_one true x y p q = (p, tt)
 named_one false x y p q = (q, tt)
 
-module _ (nodes initial voting_only : List Id) (ids : IsIdSet nodes) (set : IsIdSet initial) where
-  named_event_if_up : (n : Id) (e : Event) (c : Cluster) → has n nodes ≡ true → (needs_opening (node_world c.world n) ≡ false → AllByRecursion NamesItem (event_course (settings_of nodes initial voting_only n) c e).items)
-      → AreNamed (event_parts_if_up (settings_of nodes initial voting_only n) c e)
+module _ (nodes initial voting_only : List Id) (second : Bool) (ids : IsIdSet nodes) (set : IsIdSet initial) where
+  named_event_if_up : (n : Id) (e : Event) (c : Cluster) → has n nodes ≡ true → (needs_opening (node_world c.world n) ≡ false → AllByRecursion NamesItem (event_course (settings_of nodes initial voting_only second n) c e).items)
+      → AreNamed (event_parts_if_up (settings_of nodes initial voting_only second n) c e)
   named_event_if_up n e c listed names =
       named_if (needs_opening (node_world c.world n)) (needs_opening (node_world c.world n)) _ _ refl (λ t. (tt, tt)) (λ runs. items_named c.world.history (length c.frames) n _ (names runs))
 
-  named_frame : (n : Id) (k : ℕ) (o : Option Frame) (c : Cluster) → has n nodes ≡ true → slice_get c.frames k ≡ o → SoundCluster nodes initial voting_only c → AreNamed (frame_parts (settings_of nodes initial voting_only n) c o)
+  named_frame : (n : Id) (k : ℕ) (o : Option Frame) (c : Cluster) → has n nodes ≡ true → slice_get c.frames k ≡ o → SoundCluster nodes initial voting_only second c → AreNamed (frame_parts (settings_of nodes initial voting_only second n) c o)
   named_frame n k None c listed e h = named_one (needs_opening (node_world c.world n)) (Shared (WasDown n)) (Shared Unsent) tt tt
   named_frame n k (Some f) c listed e h =
       named_if (needs_opening (node_world c.world n)) (needs_opening (node_world c.world n)) _ _ refl (λ t. (tt, tt))
       (λ runs. named_if (same f.to n) (same f.to n) _ _ refl
-      (λ t. items_named c.world.history (length c.frames) n _ (event_named nodes initial voting_only ids set n (FrameCame f) c listed refl (frame_comes nodes initial voting_only ids set (sent c.world.history) f h.world.messages (each_at (IsGoodFrame (sent c.world.history)) c.frames k f h.frames e)) h runs))
+      (λ t. items_named c.world.history (length c.frames) n _ (event_named nodes initial voting_only second ids set n (FrameCame f) c listed refl (frame_comes nodes initial voting_only second ids set (sent c.world.history) f h.world.messages (each_at (IsGoodFrame (sent c.world.history)) c.frames k f h.frames e)) h runs))
       (λ t. (tt, tt)))
 
   named_opening : (end : CallsEnd) (n : Id) (found : Kept) → IsNamed (Shared (opening_part end n found))
@@ -207,22 +207,22 @@ module _ (nodes initial voting_only : List Id) (ids : IsIdSet nodes) (set : IsId
   named_restart_step true x y p q = p
   named_restart_step false x y p q = q
 
-  named_start : (n : Id) (end : CallsEnd) (c : Cluster) → (end ≡ Done → AllByRecursion NamesItem (event_course (settings_of nodes initial voting_only n) (with_opened (settings_of nodes initial voting_only n) c) Start).items) → AreNamed (start_parts (settings_of nodes initial voting_only n) end c)
-  named_start n Done c names = items_named (with_opened (settings_of nodes initial voting_only n) c).world.history (length c.frames) n ((event_course (settings_of nodes initial voting_only n) (with_opened (settings_of nodes initial voting_only n) c) Start).items) (names refl)
+  named_start : (n : Id) (end : CallsEnd) (c : Cluster) → (end ≡ Done → AllByRecursion NamesItem (event_course (settings_of nodes initial voting_only second n) (with_opened (settings_of nodes initial voting_only second n) c) Start).items) → AreNamed (start_parts (settings_of nodes initial voting_only second n) end c)
+  named_start n Done c names = items_named (with_opened (settings_of nodes initial voting_only second n) c).world.history (length c.frames) n ((event_course (settings_of nodes initial voting_only second n) (with_opened (settings_of nodes initial voting_only second n) c) Start).items) (names refl)
   named_start n Failed c names = tt
   named_start n (CrashedIn way) c names = tt
 
-  named_restart : (n : Id) (c : Cluster) → has n nodes ≡ true → SoundCluster nodes initial voting_only c → AreNamed (restart_parts (settings_of nodes initial voting_only n) c)
+  named_restart : (n : Id) (c : Cluster) → has n nodes ≡ true → SoundCluster nodes initial voting_only second c → AreNamed (restart_parts (settings_of nodes initial voting_only second n) c)
   named_restart n c listed h = (
     named_restart_step (needs_opening (node_world c.world n)) _ _ (named_opening (opening (c.world.disks n)).ended n (found_at (node_world c.world n))) tt,
     named_if (needs_opening (node_world c.world n)) (needs_opening (node_world c.world n)) _ _ refl
-        (λ needs. named_start n (opening (node_world c.world n).disk).ended c ((line_restart nodes initial voting_only ids set n c listed h).1 needs)) (λ t. tt),
+        (λ needs. named_start n (opening (node_world c.world n).disk).ended c ((line_restart nodes initial voting_only second ids set n c listed h).1 needs)) (λ t. tt),
   )
 
-  named_line : (c : Cluster) (l : Line) → has (node_of l) nodes ≡ true → SoundCluster nodes initial voting_only c → AreNamed (line_parts nodes initial voting_only c l)
-  named_line c (line.Tick n now word) f h = named_event_if_up n (Tick now word) c f (λ runs. event_named nodes initial voting_only ids set n (Tick now word) c f refl tt h runs)
-  named_line c (line.Client n bytes) f h = named_event_if_up n (LineCame 0 bytes) c f (λ runs. event_named nodes initial voting_only ids set n (LineCame 0 bytes) c f refl (good-asks bytes) h runs)
-  named_line c (line.Disconnect n peer) f h = named_event_if_up n (PeerGone peer) c f (λ runs. event_named nodes initial voting_only ids set n (PeerGone peer) c f refl tt h runs)
+  named_line : (c : Cluster) (l : Line) → has (node_of l) nodes ≡ true → SoundCluster nodes initial voting_only second c → AreNamed (line_parts nodes initial voting_only second c l)
+  named_line c (line.Tick n now word) f h = named_event_if_up n (Tick now word) c f (λ runs. event_named nodes initial voting_only second ids set n (Tick now word) c f refl tt h runs)
+  named_line c (line.Client n bytes) f h = named_event_if_up n (LineCame 0 bytes) c f (λ runs. event_named nodes initial voting_only second ids set n (LineCame 0 bytes) c f refl (good-asks bytes) h runs)
+  named_line c (line.Disconnect n peer) f h = named_event_if_up n (PeerGone peer) c f (λ runs. event_named nodes initial voting_only second ids set n (PeerGone peer) c f refl tt h runs)
   named_line c (line.Deliver n number) f h = named_frame n (number - 1) (frame_at c number) c f refl h
   named_line c (line.Crash n way) f h = named_one (c.world.down n) (Shared (WasDown n)) (Shared (WentDown n)) tt tt
   named_line c (line.Restart n) f h = named_restart n c f h
@@ -232,7 +232,7 @@ module _ (nodes initial voting_only : List Id) (ids : IsIdSet nodes) (set : IsId
   named_line c (line.StartJoin n candidate term) f h = tt
   named_line c (line.Value n version text config) f h = tt
 
-  pub named_lines : (c : Cluster) (ls : List Line) → AllByRecursion (λ (l : Line). has (node_of l) nodes ≡ true) ls → SoundCluster nodes initial voting_only c → AreNamed (parts_from nodes initial voting_only c ls)
+  pub named_lines : (c : Cluster) (ls : List Line) → AllByRecursion (λ (l : Line). has (node_of l) nodes ≡ true) ls → SoundCluster nodes initial voting_only second c → AreNamed (parts_from nodes initial voting_only second c ls)
   named_lines c [] f h = tt
   named_lines c (l ∷ ls) f h =
-      (tt, each_append IsNamed (line_parts nodes initial voting_only c l) _ (named_line c l f.0 h) (named_lines (after nodes initial voting_only c l) ls f.1 (line_sound nodes initial voting_only ids set c l f.0 h)))
+      (tt, each_append IsNamed (line_parts nodes initial voting_only second c l) _ (named_line c l f.0 h) (named_lines (after nodes initial voting_only second c l) ls f.1 (line_sound nodes initial voting_only second ids set c l f.0 h)))

@@ -142,23 +142,23 @@ module _ (nodes : List Id) (s : Settings) (good : IsTrue (is_id s.me)) where
     own_if nodes (needs_opening (own_world s c)) _ _ (own_start (opening (own_world s c).disk).ended c) tt,
   )
 
-module _ (nodes initial voting_only : List Id) (each : IsTrue (list_all is_id nodes)) where
-  own_line : (c : Cluster) (l : Line) → FitsNode nodes l → AreOwn nodes (line_parts nodes initial voting_only c l)
-  own_line c (line.Tick n now word) f = own_event_if_up nodes (settings_of nodes initial voting_only n) (has_id n nodes each f.0) c (Tick now word)
-  own_line c (line.Client n bytes) f = own_event_if_up nodes (settings_of nodes initial voting_only n) (has_id n nodes each f.0) c (LineCame 0 bytes)
-  own_line c (line.Disconnect n peer) f = own_event_if_up nodes (settings_of nodes initial voting_only n) (has_id n nodes each f.0) c (PeerGone peer)
-  own_line c (line.Deliver n number) f = own_frame nodes (settings_of nodes initial voting_only n) (has_id n nodes each f.0) c (frame_at c number)
+module _ (nodes initial voting_only : List Id) (second : Bool) (each : IsTrue (list_all is_id nodes)) where
+  own_line : (c : Cluster) (l : Line) → FitsNode nodes l → AreOwn nodes (line_parts nodes initial voting_only second c l)
+  own_line c (line.Tick n now word) f = own_event_if_up nodes (settings_of nodes initial voting_only second n) (has_id n nodes each f.0) c (Tick now word)
+  own_line c (line.Client n bytes) f = own_event_if_up nodes (settings_of nodes initial voting_only second n) (has_id n nodes each f.0) c (LineCame 0 bytes)
+  own_line c (line.Disconnect n peer) f = own_event_if_up nodes (settings_of nodes initial voting_only second n) (has_id n nodes each f.0) c (PeerGone peer)
+  own_line c (line.Deliver n number) f = own_frame nodes (settings_of nodes initial voting_only second n) (has_id n nodes each f.0) c (frame_at c number)
   own_line c (line.Crash n way) f = let good = has_id n nodes each f.0 in own_one nodes (c.world.down n) (Shared (WasDown n)) (Shared (WentDown n)) good good
-  own_line c (line.Restart n) f = own_restart nodes (settings_of nodes initial voting_only n) (has_id n nodes each f) c
+  own_line c (line.Restart n) f = own_restart nodes (settings_of nodes initial voting_only second n) (has_id n nodes each f) c
   own_line c (line.Fuse n count way) f = tt
   own_line c (line.Fail n count) f = tt
   own_line c (line.Boot n) f = absurd f
   own_line c (line.StartJoin n candidate term) f = absurd f
   own_line c (line.Value n version text config) f = absurd f
 
-  own_lines : (c : Cluster) (ls : List Line) → AllByRecursion (FitsLine Node nodes) ls → AreOwn nodes (parts_from nodes initial voting_only c ls)
+  own_lines : (c : Cluster) (ls : List Line) → AllByRecursion (FitsLine Node nodes) ls → AreOwn nodes (parts_from nodes initial voting_only second c ls)
   own_lines c [] f = tt
-  own_lines c (l ∷ ls) f = (f.0, own_append nodes (line_parts nodes initial voting_only c l) (parts_from nodes initial voting_only (after nodes initial voting_only c l) ls) (own_line c l f.0) (own_lines (after nodes initial voting_only c l) ls f.1))
+  own_lines c (l ∷ ls) f = (f.0, own_append nodes (line_parts nodes initial voting_only second c l) (parts_from nodes initial voting_only second (after nodes initial voting_only second c l) ls) (own_line c l f.0) (own_lines (after nodes initial voting_only second c l) ls f.1))
 
 -- ---- what the parts show
 
@@ -276,23 +276,23 @@ formed s w = record { nodes = w.can.nodes; initial = w.can.initial; lines = line
 
 pub whole_sound : (s : Schedule) → CanBeAuditedWhole s → Along (IsSound s.initial) NoEntries (core_of (cluster_parts s))
 whole_sound s w =
-    let p = lines_piece s.nodes s.initial s.voting_only (fresh_cluster s.nodes s.initial s.voting_only) s.lines in
+    let p = lines_piece s.nodes s.initial s.voting_only s.second (fresh_cluster s.nodes s.initial s.voting_only s.second) s.lines in
     sound_along s.initial NoEntries (core_of (cluster_parts s)) p.right (subst (λ (h : History). IsLegal s.initial h) (sym p.history) (cluster_replay_is_legal s (formed s w)))
 
 -- the trace by its parts
 pub trace_reads : (s : Schedule) → CanBeAuditedWhole s → Reads (trace_at Node s) (entries_of (core_of (cluster_parts s))) (counts_of (core_of (cluster_parts s))) (won_lines_of (core_of (cluster_parts s))) (state_lines_of (core_of (cluster_parts s)))
 trace_reads s w =
-    let p = lines_piece s.nodes s.initial s.voting_only (fresh_cluster s.nodes s.initial s.voting_only) s.lines in
+    let p = lines_piece s.nodes s.initial s.voting_only s.second (fresh_cluster s.nodes s.initial s.voting_only s.second) s.lines in
     let xs = cluster_parts s in
     let listed = fits_ids most_ids s.initial w.can.initial w.can.initial.fits in
     let short : 0 + length (cluster_text xs) ≤ most_bytes = omega (arith, w.can.short, length-append (header s.initial) (trace_at Node s), ap (λ (t : List ℕ). length t) p.text_is) in
     subst (λ (t : List ℕ). Reads t (entries_of (core_of xs)) (counts_of (core_of xs)) (won_lines_of (core_of xs)) (state_lines_of (core_of xs))) (sym p.text_is)
-    (steps_show s.initial listed s.nodes w.can.nodes NoEntries 0 (replayed s).frames xs p.frames (whole_sound s w) (own_lines s.nodes s.initial s.voting_only w.can.nodes.each (fresh_cluster s.nodes s.initial s.voting_only) s.lines w.fit)
-    (named_lines s.nodes s.initial s.voting_only w.can.nodes w.can.initial (fresh_cluster s.nodes s.initial s.voting_only) s.lines (lines_node s.nodes s.lines w.fit) (fresh_sound s.nodes s.initial s.voting_only w.can.nodes w.can.initial)) tt short)
+    (steps_show s.initial listed s.nodes w.can.nodes NoEntries 0 (replayed s).frames xs p.frames (whole_sound s w) (own_lines s.nodes s.initial s.voting_only s.second w.can.nodes.each (fresh_cluster s.nodes s.initial s.voting_only s.second) s.lines w.fit)
+    (named_lines s.nodes s.initial s.voting_only s.second w.can.nodes w.can.initial (fresh_cluster s.nodes s.initial s.voting_only s.second) s.lines (lines_node s.nodes s.lines w.fit) (fresh_sound s.nodes s.initial s.voting_only s.second w.can.nodes w.can.initial)) tt short)
 
 pub whole_read : LawWholeReplayIsRead
 whole_read s w =
-    let p = lines_piece s.nodes s.initial s.voting_only (fresh_cluster s.nodes s.initial s.voting_only) s.lines in
+    let p = lines_piece s.nodes s.initial s.voting_only s.second (fresh_cluster s.nodes s.initial s.voting_only s.second) s.lines in
     read_as s.initial (trace_at Node s) (entries_of (core_of (cluster_parts s))) (replayed_history s) w.can.initial w.can.some_initial w.can.short (shows _ _ _ _ _ (trace_reads s w))
     (steps_entries s.initial NoEntries (core_of (cluster_parts s)) (whole_sound s w) ∙ p.history)
 
