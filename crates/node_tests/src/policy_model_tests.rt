@@ -1,4 +1,5 @@
 //! The laws can be called, and listed peers keep their order.
+use master_tasks::Policy;
 use policy_model::*;
 use std::test::*;
 use voting_config::{NodeId, NodeSet};
@@ -20,7 +21,10 @@ fn listed_peers_keep_their_order(rt: HostRuntime) {
         peers: NodeIds::of(ids),
         initial: NodeSet::new(),
         voting_only: NodeSet::new(),
-        shrink: true,
+        policy: Policy {
+            shrink: true,
+            second: false,
+        },
     };
     assert!(rt; settings.peers.as_slice() == [id("b"), id("a"), id("b")].as_slice());
 }
@@ -31,6 +35,7 @@ fn the_laws_can_be_called() {
     law_life_is_local();
     law_event_moves();
     law_opening_moves();
+    law_first_profile();
     law_no_voting_only();
     law_parts_look_back();
     law_queue();

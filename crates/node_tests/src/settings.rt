@@ -1,4 +1,5 @@
 //! The settings of the nodes that tests start.
+use master_tasks::Policy;
 use policy_model::{NodeIds, Settings};
 use std::alloc::Global;
 use std::test::Fail;
@@ -45,7 +46,10 @@ pub(crate) fn settings_of(alloc: Global, names: &Names) -> Result<Settings, Fail
     let voting_only = NodeSet::parse(names.voting_only).ok_or(NO_LIST)?;
     Ok(Settings {
         me,
-        shrink: voting_only.as_slice().is_empty(),
+        policy: Policy {
+            shrink: voting_only.as_slice().is_empty(),
+            second: false,
+        },
         initial,
         voting_only,
         peers: peers_of(alloc, me, names.nodes)?,

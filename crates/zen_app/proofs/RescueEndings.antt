@@ -10,7 +10,7 @@ use Rattle.schedule_text.specs.Lines.{FitsLine}
 use Rattle.schedule_text.specs.Printed.{bad_line}
 use Rattle.schedule_text.specs.Reading.{fault_of}
 use Rattle.schedule_text.specs.FirstBad.{IsFirstBad}
-use Rattle.schedule_text.specs.Spelled.{Spells, Nothing, Text}
+use Rattle.schedule_text.specs.Spelled.{Spells, Nothing, Text, Nobody}
 use Rattle.schedule_text.specs.declared.fault.BadSchedule.{BadSchedule}
 use Rattle.schedule_text.specs.declared.level.Level.TheVariants.{Core}
 use Rattle.schedule_text.specs.declared.schedule.Schedule.{Schedule}
@@ -36,12 +36,14 @@ use Rattle.zen_app.proofs.Spelled.{spells_short}
 -- the header is two lines
 pub spells_few : (bytes : List ℕ) (s : Schedule) → Spells Core bytes s → 2 + length s.lines ≤ most_lines
 spells_few _ _ Nothing = omega arith
-spells_few _ _ (Text s is within) = omega (arith, within.count, count_lines s is.voting_only)
+spells_few _ _ (Text s is within) = omega (arith, within.count, count_lines s is.voting_only is.second)
+spells_few _ _ (Nobody s at none is within) = absurd (cc)
 
 -- its lines are of level core and of its nodes
 pub spells_fit : (bytes : List ℕ) (s : Schedule) → Spells Core bytes s → AllByRecursion (FitsLine Core s.nodes) s.lines
 spells_fit _ _ Nothing = tt
 spells_fit _ _ (Text s is within) = is.lines
+spells_fit _ _ (Nobody s at none is within) = is.lines
 
 -- a plan, or none, by whatever schedule the bytes spell
 by_plan : (r : Result Plan NoRescue) (p : Plan) (status : Status) → r ≡ Ok p → (status ≡ exit.Ok) ⊎ (status ≡ exit.NoMemory) → EndsBy r status

@@ -13,7 +13,7 @@ use Rattle.world_model.specs.Histories.{sent}
 use Rattle.schedule_text.specs.Limits.{most_bytes, most_lines, most_line_bytes}
 use Rattle.schedule_text.specs.Lines.{line_text}
 use Rattle.schedule_text.specs.Reading.{no_schedule}
-use Rattle.schedule_text.specs.Spelled.{Spells, Nothing, Text, IsWithin, schedule_text, text_lines, voting_only_lines, with_feeds}
+use Rattle.schedule_text.specs.Spelled.{Spells, Nothing, Text, Nobody, IsWithin, schedule_text, text_lines, voting_only_lines, profile_lines, with_feeds}
 use Rattle.schedule_text.specs.declared.level.Level.TheVariants.{Core}
 use Rattle.schedule_text.specs.declared.schedule.Line.{Line}
 use Rattle.schedule_text.specs.declared.schedule.Schedule.{Schedule}
@@ -138,13 +138,18 @@ after_header s lines = (codes "nodes " ++ list_text s.nodes) ∷ ((codes "initia
 
 lines_more : (s : Schedule) (ls : List Line) → text_lines (with_lines s ls) ≡ text_lines s ++ map line_text ls
 lines_more s ls =
-    ap (λ (xs : List (List ℕ)). after_header s (voting_only_lines s.voting_only ++ xs)) (map-append line_text s.lines ls)
-    ∙ ap (after_header s) (sym (append_assoc (voting_only_lines s.voting_only) (map line_text s.lines) (map line_text ls)))
+    let voting_only = voting_only_lines s.voting_only in
+    let profile = profile_lines s.second in
+    ap (λ (xs : List (List ℕ)). after_header s (voting_only ++ (profile ++ xs))) (map-append line_text s.lines ls)
+    ∙ ap (λ (xs : List (List ℕ)). after_header s (voting_only ++ xs)) (sym (append_assoc profile (map line_text s.lines) (map line_text ls)))
+    ∙ ap (after_header s) (sym (append_assoc voting_only (profile ++ map line_text s.lines) (map line_text ls)))
 
 -- a schedule of level core has two header lines
-pub count_lines : (s : Schedule) → s.voting_only ≡ [] → length (text_lines s) ≡ 2 + length s.lines
-count_lines s none =
-    let short : length (text_lines s) ≡ length (after_header s (map line_text s.lines)) = ap (λ (ids : List Id). length (after_header s (voting_only_lines ids ++ map line_text s.lines))) none in
+pub count_lines : (s : Schedule) → s.voting_only ≡ [] → s.second ≡ false → length (text_lines s) ≡ 2 + length s.lines
+count_lines s none first =
+    let short : length (text_lines s) ≡ length (after_header s (map line_text s.lines)) =
+    ap (λ (ids : List Id). length (after_header s (voting_only_lines ids ++ (profile_lines s.second ++ map line_text s.lines)))) none
+    ∙ ap (λ (second : Bool). length (after_header s (profile_lines second ++ map line_text s.lines))) first in
     omega (arith, short, length-map s.lines line_text)
 
 more_text : (s : Schedule) (ls : List Line) → schedule_text (with_lines s ls) ≡ schedule_text s ++ lines_text ls
@@ -162,15 +167,15 @@ none_long (l ∷ ls) e =
     let parts = or_parts (is_long l) (list_any is_long ls) e in
     (ltb-false most_line_bytes (length (line_text l)) parts.0, none_long ls parts.1)
 
-within : (s : Schedule) (ls : List Line) → s.voting_only ≡ [] → IsWithin (text_lines s) → is_full (length (schedule_text s)) (length s.lines) ls ≡ false → IsWithin (text_lines (with_lines s ls))
-within s ls none is e =
+within : (s : Schedule) (ls : List Line) → s.voting_only ≡ [] → s.second ≡ false → IsWithin (text_lines s) → is_full (length (schedule_text s)) (length s.lines) ls ≡ false → IsWithin (text_lines (with_lines s ls))
+within s ls none first is e =
     let parts = or_parts _ _ e in
     let more = or_parts _ _ parts.1 in
     let lines_is = lines_more s ls in
     let long : length (with_feeds (text_lines (with_lines s ls))) ≡ length (schedule_text s ++ lines_text ls) = ap (λ (t : List ℕ). length t) (more_text s ls) in
     record {
       bytes = omega (arith, long, length-append (schedule_text s) (lines_text ls), ltb-false most_bytes (length (schedule_text s) + length (lines_text ls)) parts.0);
-      count = omega (arith, count_lines (with_lines s ls) none, length-append s.lines ls, ltb-false most_lines (2 + length s.lines + length ls) more.0);
+      count = omega (arith, count_lines (with_lines s ls) none first, length-append s.lines ls, ltb-false most_lines (2 + length s.lines + length ls) more.0);
       each = subst (AllByRecursion (λ (l : List ℕ). length l ≤ most_line_bytes)) (sym lines_is) (all_both _ (text_lines s) (map line_text ls) is.each (none_long ls more.1));
     }
 
@@ -219,11 +224,12 @@ is_rescued _ _ Nothing ids set some p e =
   where
     none : false ≡ true → ⊥
     none e = cc
+is_rescued _ _ (Nobody s at nobody is small) ids set some p e = absurd (cc)
 is_rescued _ _ (Text s is small) ids set some p e =
     let answer = answered_by s (length (schedule_text s)) ids p e in
-    let few : length s.lines ≤ most_lines = omega (arith, small.count, count_lines s is.voting_only) in
+    let few : length s.lines ≤ most_lines = omega (arith, small.count, count_lines s is.voting_only is.second) in
     let on : GoesOn s ids p = goes_on s is few ids set answer.listed answer.free p answer.made in
     record {
-      spelled = subst (λ (t : List ℕ). Spells Core t (with_lines s p.lines)) (more_text s p.lines) (Text (with_lines s p.lines) on.schedule (within s p.lines is.voting_only small answer.fits));
+      spelled = subst (λ (t : List ℕ). Spells Core t (with_lines s p.lines)) (more_text s p.lines) (Text (with_lines s p.lines) on.schedule (within s p.lines is.voting_only is.second small answer.fits));
       goes_on = on;
     }

@@ -2,7 +2,7 @@
 use Rattle.std.proofs.Common.{◌≡◌, ℕ, ◌≤◌, ◌<◌, List, [], ◌∷◌, ◌++◌, true, length, refl, ap, subst, arith}
 use Rattle.std.specs.Prelude.{Contains}
 use Rattle.std.specs.List.{AllByRecursion}
-use Rattle.voting_config.specs.Ids.{IsIdSet, has}
+use Rattle.voting_config.specs.Ids.{Id, IsIdSet, has}
 use Rattle.world_model.specs.Safety.{Win}
 use Rattle.agreement.proofs.Laws.{safe_of_legal}
 use Rattle.schedule_text.specs.declared.level.Level.{Level}
@@ -11,7 +11,7 @@ use Rattle.schedule_text.specs.declared.schedule.Line.{Line}
 use Rattle.schedule_text.specs.declared.schedule.Schedule.{Schedule}
 use Rattle.schedule_text.specs.Limits.{most_bytes}
 use Rattle.schedule_text.specs.Lines.{FitsLine}
-use Rattle.schedule_text.specs.Spelled.{Spells, Nothing, Text}
+use Rattle.schedule_text.specs.Spelled.{Spells, Nothing, Text, Nobody}
 use Rattle.schedule_replay.specs.Legal.{IsWellFormed}
 use Rattle.schedule_replay.specs.Replayed.{replayed}
 use Rattle.replay_node.specs.Clusters.{replayed_history}
@@ -27,23 +27,27 @@ use Rattle.zen_app.specs.SafeTrace.{IsSafeTrace, IsSafeClusterTrace, IsSafeTrace
 pub spells_fits : (level : Level) (bytes : List ℕ) (s : Schedule) → Spells level bytes s → AllByRecursion (FitsLine level s.nodes) s.lines
 spells_fits level _ _ Nothing = tt
 spells_fits level _ _ (Text s is within) = is.lines
+spells_fits level _ _ (Nobody s at none is within) = is.lines
 
 pub spells_short : (level : Level) (bytes : List ℕ) (s : Schedule) → Spells level bytes s → length bytes ≤ most_bytes
 spells_short level _ _ Nothing = omega arith
 spells_short level _ _ (Text s is within) = within.bytes
+spells_short level _ _ (Nobody s at none is within) = within.bytes
 
 -- ---- level core
 
+not_none : (xs : List Id) → 0 < length xs → xs ≡ [] → ⊥
+not_none xs some e = let zero_long : length xs ≡ 0 = ap (λ (l : List Id). length l) e in omega (arith, some, zero_long)
+
 spells_named : (bytes : List ℕ) (s : Schedule) → Spells Core bytes s → s.initial ≡ [] → s.lines ≡ []
 spells_named _ _ Nothing e = refl
-spells_named _ _ (Text s is within) e = absurd (none s.initial is.some_initial e)
-  where
-    none : (xs : List (List ℕ)) → 0 < length xs → xs ≡ [] → ⊥
-    none xs some e = let zero_long : length xs ≡ 0 = ap (λ (l : List (List ℕ)). length l) e in omega (arith, some, zero_long)
+spells_named _ _ (Text s is within) e = absurd (not_none s.initial is.some_initial e)
+spells_named _ _ (Nobody s at none is within) e = absurd (not_none s.initial is.some_initial e)
 
 spells_set : (bytes : List ℕ) (s : Schedule) → Spells Core bytes s → IsIdSet s.initial
 spells_set _ _ Nothing = none_set
 spells_set _ _ (Text s is within) = ids_set s.initial is.initial
+spells_set _ _ (Nobody s at none is within) = ids_set s.initial is.initial
 
 spells_well_formed : (bytes : List ℕ) (s : Schedule) → Spells Core bytes s → IsWellFormed s
 spells_well_formed bytes s spelled = record { initial = spells_set bytes s spelled; fit = spells_fits Core bytes s spelled; named = spells_named bytes s spelled }

@@ -44,7 +44,7 @@ settings_by w = record {
   peers = map (λ (p : ToldPeer). p.id) w.link.peers;
   initial = w.initial;
   voting_only = w.voting_only;
-  shrink = w.shrink;
+  policy = record { shrink = w.shrink; second = w.second };
 }
 
 -- the status, by how serving ended

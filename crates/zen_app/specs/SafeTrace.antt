@@ -38,10 +38,10 @@ pub record IsSafeTrace (s : Schedule) : Type 0 where
 -- What a node of the schedule does, from its start and from each restart on, as far as its disk lets it.
 pub record LivesByPolicy (s : Schedule) (n : Id) : Type 0 where
   -- at each event it does what the policy says of its life so far, and its acts in the history are just those of its life
-  pub life : IsLifeIn (replayed_history s) (settings_of s.nodes s.initial s.voting_only n) (replayed_life s n)
+  pub life : IsLifeIn (replayed_history s) (settings_of s.nodes s.initial s.voting_only s.second n) (replayed_life s n)
   -- Each of its replies is true at the end of its event. An `acked` names a committed state, which has what the request asked for unless a
   -- request that was processed later may have undone it. A `state` shows a committed state.
-  pub replies : RepliesTruly (replayed_history s) (settings_of s.nodes s.initial s.voting_only n) (replayed_life s n)
+  pub replies : RepliesTruly (replayed_history s) (settings_of s.nodes s.initial s.voting_only s.second n) (replayed_life s n)
 
 -- the schedule as it stands at the end of one of its lines
 abbrev pub up_to : Schedule → List Line → Schedule

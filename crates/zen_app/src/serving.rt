@@ -13,6 +13,7 @@ use crate::Status;
 use command_line::NodeWords;
 use coordinator::Sealed;
 use journal_inspection::write_not_a_journal;
+use master_tasks::Policy;
 use node_loop::{End, JournalNode, Node};
 use policy_model::{NodeIds, Settings};
 use state_journal::{OpenError, Why};
@@ -42,7 +43,10 @@ fn settings(alloc: Global, words: &NodeWords) -> Result<Settings, AllocError>
         peers: NodeIds::of(ids(alloc, &link.peers)?),
         initial: words.initial.copy(),
         voting_only: words.voting_only.copy(),
-        shrink: words.shrink,
+        policy: Policy {
+            shrink: words.shrink,
+            second: words.second,
+        },
     })
 }
 

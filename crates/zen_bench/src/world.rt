@@ -5,6 +5,7 @@ use crate::counts::Counts;
 use crate::fault::{Fault, expected};
 use crate::member::{Given, Member};
 use coordinator::Sealed;
+use master_tasks::Policy;
 use policy_model::{NodeIds, Settings};
 use state_journal::Keeper;
 use std::alloc::Global;
@@ -39,7 +40,10 @@ fn settings(alloc: Global, me: NodeId, all: &NodeSet) -> Result<Settings, Fault>
         peers: NodeIds::of(Vec::from_slice(alloc, all.as_slice())?),
         initial: all.copy(),
         voting_only: NodeSet::new(),
-        shrink: true,
+        policy: Policy {
+            shrink: true,
+            second: false,
+        },
     })
 }
 
