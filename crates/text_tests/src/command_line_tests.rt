@@ -38,12 +38,13 @@ fn node_text(alloc: Global, node: &NodeWords) -> Result<String, AllocError> {
     let initial = id_list(alloc, node.initial.as_slice())?;
     let voting_only = id_list(alloc, node.voting_only.as_slice())?;
     format!(in alloc;
-        "node {} at {} in {}, peers{peers}, initial{initial}, voting-only{voting_only}, turns {}, shrink {}",
+        "node {} at {} in {}, peers{peers}, initial{initial}, voting-only{voting_only}, turns {}, shrink {}, second {}",
         link.me,
         link.listen,
         node.dir.as_str(),
         node.turns,
-        node.shrink
+        node.shrink,
+        node.second
     )
 }
 
@@ -106,23 +107,31 @@ const COMMANDS: &[(&str, &str)] = &[
     ("inspect --dir inspect", "inspect inspect"),
     (
         "node --id a --dir d --listen h:1 --peers b=h:2,c=h:3 --initial a,b --turns 5",
-        "node a at h:1 in d, peers b=h:2 c=h:3, initial a b, voting-only, turns 5, shrink true",
+        "node a at h:1 in d, peers b=h:2 c=h:3, initial a b, voting-only, turns 5, shrink true, second true",
     ),
     (
         "node --no-shrink --turns=0 --initial=_ --peers=_ --listen=h --dir=d/e --id=a-1",
-        "node a-1 at h in d/e, peers, initial, voting-only, turns 0, shrink false",
+        "node a-1 at h in d/e, peers, initial, voting-only, turns 0, shrink false, second true",
     ),
     (
         "node --initial c,a,b --id 0 --turns 18446744073709551615 --dir _ --peers c=-,b=x=y --listen _",
-        "node 0 at _ in _, peers c=- b=x=y, initial a b c, voting-only, turns 18446744073709551615, shrink true",
+        "node 0 at _ in _, peers c=- b=x=y, initial a b c, voting-only, turns 18446744073709551615, shrink true, second true",
     ),
     (
         "node --voting-only v,c --id c --turns 5 --dir d --peers _ --initial c --listen h",
-        "node c at h in d, peers, initial c, voting-only c v, turns 5, shrink true",
+        "node c at h in d, peers, initial c, voting-only c v, turns 5, shrink true, second true",
     ),
     (
         "node --id c --turns 5 --dir d --voting-only=_ --peers _ --initial c --listen h",
-        "node c at h in d, peers, initial c, voting-only, turns 5, shrink true",
+        "node c at h in d, peers, initial c, voting-only, turns 5, shrink true, second true",
+    ),
+    (
+        "node --id c --turns 5 --dir d --peers _ --profile 1 --initial c --listen h",
+        "node c at h in d, peers, initial c, voting-only, turns 5, shrink true, second false",
+    ),
+    (
+        "node --profile=2 --id c --turns 5 --dir d --peers _ --initial c --listen h",
+        "node c at h in d, peers, initial c, voting-only, turns 5, shrink true, second true",
     ),
     ("generate --number 7 --steps 0", "generate 7 of 0"),
     (
@@ -160,12 +169,12 @@ const LISTED: &[Listed] = &[
     (
         "node --id a --dir d --listen h --peers _ --turns 5 --initial ",
         "node a at h in d, peers, initial ",
-        ", voting-only, turns 5, shrink true",
+        ", voting-only, turns 5, shrink true, second true",
     ),
     (
         "node --id a --dir d --listen h --peers _ --turns 5 --initial _ --voting-only ",
         "node a at h in d, peers, initial, voting-only ",
-        ", turns 5, shrink true",
+        ", turns 5, shrink true, second true",
     ),
     ("rescue --up ", "rescue of ", ""),
 ];
@@ -256,6 +265,8 @@ const NODES: &[&str] = &[
     "node --id a --dir d --listen h --peers _ --initial _ --turns 5 --no-shrink --no-shrink",
     "node --id a --dir d --listen h --peers _ --initial _ --turns 5 --voting-only a --voting-only a",
     "node --id a --dir d --listen h --peers _ --initial _ --turns 5 --voting-only",
+    "node --id a --dir d --listen h --peers _ --initial _ --turns 5 --profile 2 --profile 2",
+    "node --id a --dir d --listen h --peers _ --initial _ --turns 5 --profile",
     "node --id a --dir d --listen h --peers _ --initial _ --turns 5 --no-shrink=true",
     "node --id a --dir d --listen h --peers _ --initial _ --turns 5 --level core",
     "node --id a --dir d --listen h --peers _ --initial _ --turns 5 --",
@@ -264,6 +275,10 @@ const NODES: &[&str] = &[
 ];
 
 const VALUES: &[&str] = &[
+    "node --id a --dir d --listen h --peers _ --initial _ --turns 5 --profile 0",
+    "node --id a --dir d --listen h --peers _ --initial _ --turns 5 --profile 3",
+    "node --id a --dir d --listen h --peers _ --initial _ --turns 5 --profile 02",
+    "node --id a --dir d --listen h --peers _ --initial _ --turns 5 --profile=",
     "node --id A --dir d --listen h --peers _ --initial _ --turns 5",
     "node --id=-a --dir d --listen h --peers _ --initial _ --turns 5",
     "node --id= --dir d --listen h --peers _ --initial _ --turns 5",

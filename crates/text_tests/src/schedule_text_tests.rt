@@ -72,6 +72,8 @@ fn third_lines_are_bad(
 
 const CORE_LINES: &[(&str, WhyBad)] = &[
     ("voting-only a\n", WhyBad::Verb),
+    ("voting-only _\n", WhyBad::Verb),
+    ("profile 2\n", WhyBad::Verb),
     ("tick a 0 0\n", WhyBad::Verb),
     ("client a x\n", WhyBad::Verb),
     ("disconnect a a\n", WhyBad::Verb),
@@ -121,13 +123,20 @@ fn names_the_reason_of_a_third_line_at_level_core(rt: HostRuntime) -> Result<(),
 const NODE_LINES: &[(&str, WhyBad)] = &[
     ("voting-only\n", WhyBad::Header),
     ("voting-only \n", WhyBad::Header),
-    ("voting-only _\n", WhyBad::Header),
     ("voting-only z\n", WhyBad::Header),
     ("voting-only a,a\n", WhyBad::Header),
     ("voting-only a a\n", WhyBad::Header),
     ("voting-only a", WhyBad::NoNewline),
     ("voting-onlya a\n", WhyBad::Verb),
     ("voting\n", WhyBad::Verb),
+    ("profile\n", WhyBad::Header),
+    ("profile \n", WhyBad::Header),
+    ("profile 1\n", WhyBad::Header),
+    ("profile 02\n", WhyBad::Header),
+    ("profile 2 \n", WhyBad::Header),
+    ("profile  2\n", WhyBad::Header),
+    ("profile 2", WhyBad::NoNewline),
+    ("profiles 2\n", WhyBad::Verb),
     ("boot a\n", WhyBad::Verb),
     ("startjoin a a 1\n", WhyBad::Verb),
     ("value a 1 x a\n", WhyBad::Verb),
@@ -216,21 +225,57 @@ const FAULTS: &[(&str, &[Level], &str, Fault)] = &[
         "nodes a\ninitial a\n",
         None,
     ),
-    // a third header line does not stand third
     (
-        "takes_a_third_header_line_at_its_place_alone",
+        "takes_a_list_of_no_voting_only_nodes",
+        NODE,
+        "nodes a\ninitial a\nvoting-only _\n",
+        None,
+    ),
+    (
+        "takes_the_profile_after_the_voting_only_nodes",
+        NODE,
+        "nodes a\ninitial a\nvoting-only _\nprofile 2\ntick a 0 0\n",
+        None,
+    ),
+    (
+        "names_the_reason_of_a_header",
+        NODE,
+        "nodes a\ninitial a\nvoting-only a\nprofile 1\n",
+        Some((4, WhyBad::Header)),
+    ),
+    // a further header line does not stand at its place
+    (
+        "takes_a_further_header_line_at_its_place_alone",
+        NODE,
+        "nodes a\ninitial a\nprofile 2\nprofile 2\n",
+        Some((4, WhyBad::Verb)),
+    ),
+    (
+        "takes_a_further_header_line_at_its_place_alone",
+        NODE,
+        "nodes a\ninitial a\nprofile 2\nvoting-only a\n",
+        Some((4, WhyBad::Verb)),
+    ),
+    (
+        "takes_a_further_header_line_at_its_place_alone",
+        NODE,
+        "nodes a\ninitial a\ntick a 0 0\nprofile 2\n",
+        Some((4, WhyBad::Verb)),
+    ),
+    (
+        "takes_a_further_header_line_at_its_place_alone",
         NODE,
         "nodes a\ninitial a\nvoting-only a\nvoting-only a\n",
         Some((4, WhyBad::Verb)),
     ),
     (
-        "takes_a_third_header_line_at_its_place_alone",
+        "takes_a_further_header_line_at_its_place_alone",
         NODE,
         "nodes a\ninitial a\ntick a 0 0\nvoting-only a\n",
         Some((4, WhyBad::Verb)),
     ),
     (
-        "takes_a_third_header_line_at_its_place_alone",
+        "takes_a_further_header_line_at_its_place_alone",
         NODE,
         "nodes a\ninitial a\nvoting-only a\ntick a 0 0\nboot a\n",
         Some((5, WhyBad::Verb)),
@@ -286,13 +331,13 @@ fn a_header_lists_up_to_64_ids(rt: HostRuntime) {
     }
 }
 
-// Whether the schedule that a text spells is printed as that text.
-fn prints_itself(alloc: Global, level: Level, text: &[u8]) -> Result<bool, AllocError> {
+// Whether the schedule that a text spells is printed so.
+fn prints(alloc: Global, level: Level, text: &[u8], wanted: &[u8]) -> Result<bool, AllocError> {
     let Ok(schedule) = read_schedule(alloc, text, level) else {
         return Ok(false);
     };
     let printed = write_schedule(alloc, &schedule)?;
-    Ok(printed.as_bytes() == text)
+    Ok(printed.as_bytes() == wanted)
 }
 
 const PRINTED: &[(&str, Level, &[u8])] = &[
@@ -334,14 +379,46 @@ const PRINTED: &[(&str, Level, &[u8])] = &[
         Level::Node,
         b"nodes a,b,v,w\ninitial a,b,v\nvoting-only b,v\ntick a 0 0\n",
     ),
+    (
+        "prints_the_profile_that_it_has_read",
+        Level::Node,
+        b"nodes a\ninitial a\nprofile 2\n",
+    ),
+    (
+        "prints_the_profile_that_it_has_read",
+        Level::Node,
+        b"nodes a,b\ninitial a\nvoting-only b\nprofile 2\ntick a 0 0\n",
+    ),
 ];
 
 #[test]
 fn prints_each_schedule_as_it_was_read(rt: HostRuntime) {
     for (name, level, text) in PRINTED {
         assert!(rt;
-            prints_itself(rt.alloc(), *level, text) == Ok(true),
+            prints(rt.alloc(), *level, text, text) == Ok(true),
             "{name}"
+        );
+    }
+}
+
+// A text that says that nobody is voting-only, and what is printed of it.
+const OF_NOBODY: &[(&[u8], &[u8])] = &[
+    (
+        b"nodes a\ninitial a\nvoting-only _\n",
+        b"nodes a\ninitial a\n",
+    ),
+    (
+        b"nodes a\ninitial a\nvoting-only _\nprofile 2\ntick a 0 0\n",
+        b"nodes a\ninitial a\nprofile 2\ntick a 0 0\n",
+    ),
+];
+
+#[test]
+fn prints_no_line_of_voting_only_nodes_where_there_are_none(rt: HostRuntime) {
+    for (at, (text, printed)) in OF_NOBODY.iter().enumerate() {
+        assert!(rt;
+            prints(rt.alloc(), Level::Node, text, printed) == Ok(true),
+            "row {at}"
         );
     }
 }
