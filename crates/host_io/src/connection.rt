@@ -3,7 +3,6 @@ ghost use Rattle.std.specs.Prelude.{◌≡◌, ◌≤◌, ◌<◌, ◌+◌, IsTr
 
 use crate::framing::Framing;
 use crate::queue::FrameQueue;
-use crate::unfinished::Unfinished;
 use arrayvec::ArrayVec;
 use bytes::{Bytes, BytesMut};
 use memchr::memchr;
@@ -106,8 +105,6 @@ pub(crate) struct Connection {
     given: u64,
     // Whether a line feed was given.
     has_line: bool,
-    // Of the frames that were given, the one that is not whole.
-    unfinished: Unfinished,
     // What was read, and not given yet.
     incoming: BytesMut,
     // Whether a read may find something: it was reported, and no read has found nothing since.
@@ -123,10 +120,6 @@ pub(crate) struct Connection {
     is_watched: bool,
     // Once its other side has ended its writing: until when it is kept.
     shut_until: Option<u64>,
-    // Whether it was opened here and has reached its other side.
-    stands: bool,
-    // Whether bytes have gone out over it.
-    has_written: bool,
     // Whether it was ended here.
     over: bool,
 }
@@ -153,7 +146,6 @@ impl Connection {
             prefix: ArrayVec::new(),
             given: 0,
             has_line: false,
-            unfinished: Unfinished::NONE,
             incoming: BytesMut::new(alloc),
             is_ready: true,
             coming: Coming::More,
@@ -162,8 +154,6 @@ impl Connection {
             token: UNNUMBERED,
             is_watched: false,
             shut_until: None,
-            stands: false,
-            has_written: false,
             over: false,
         }
     }
@@ -217,23 +207,6 @@ impl Connection {
         self.over
     }
 
-    // Whether it was opened here and has reached its other side.
-    pub(crate) fn stands(&self) -> bool {
-        self.stands
-    }
-
-    // Whether bytes have gone out over it.
-    pub(crate) fn has_written(&self) -> bool {
-        self.has_written
-    }
-
-    // Notes whether one that was opened here has reached its other side by now.
-    fn note_standing(&mut self) {
-        if self.peer.is_some() && !self.stands {
-            self.stands = self.stream.peer_addr().is_ok();
-        }
-    }
-
     // Whether another may take its place: it came from outside, and has given neither a whole line nor a whole frame.
     pub(crate) fn is_idle(&self) -> bool {
         self.over || self.peer.is_none() && !self.has_whole()
@@ -260,7 +233,6 @@ impl Connection {
     pub(crate) fn set_number(&mut self, registry: &Registry, number: u64) {
         self.token = Token(number as usize);
         self.is_ready = true;
-        self.note_standing();
         if self.register(registry).is_err() {
             self.end();
         }
@@ -335,10 +307,7 @@ impl Connection {
         {
             Ok(0) => self.coming = Coming::Ended,
             Ok(_) => {}
-            Err(error) if error.kind() == ErrorKind::WouldBlock => {
-                self.is_ready = false;
-                self.note_standing();
-            }
+            Err(error) if error.kind() == ErrorKind::WouldBlock => self.is_ready = false,
             Err(error) if is_later(&error) => {}
             Err(_) => self.coming = Coming::Broken,
         }
@@ -387,11 +356,6 @@ impl Connection {
         }
     }
 
-    // How many bytes of a frame were given that is not whole.
-    pub(crate) fn unfinished(&self) -> u64 {
-        self.unfinished.held()
-    }
-
     // Whether its first byte is a frame's.
     fn carries_frames(&self) -> bool {
         match self.prefix.as_slice() {
@@ -409,9 +373,6 @@ impl Connection {
                 break;
             }
             self.prefix.push(*byte);
-        }
-        if self.carries_frames() {
-            self.unfinished.note(bytes);
         }
     }
 
@@ -444,7 +405,7 @@ impl Connection {
             }
             match self.outgoing.write_to(&mut self.stream) {
                 Ok(0) => break,
-                Ok(_) => self.has_written = true,
+                Ok(_) => {}
                 Err(error) if is_later(&error) => break,
                 Err(error) => return Err(error),
             }
@@ -462,25 +423,17 @@ impl Connection {
         self.register(registry)
     }
 
-    // Has reported under its token that it can be read from, and, where it is watched or has not reached its other side yet,
-    // that it can be written to.
+    // Has reported under its token that it can be read from, and, where it is watched, that it can be written to.
     fn register(&mut self, registry: &Registry) -> io::Result<()> {
         let mut interest = Interest::READABLE;
-        if self.is_watched || self.peer.is_some() && !self.stands {
+        if self.is_watched {
             interest = Interest::READABLE | Interest::WRITABLE;
         }
         registry.reregister(&mut self.stream, self.token, interest)
     }
 
-    // Ends it, unless something waits to be written.
-    pub(crate) fn end_if_written(&mut self) {
-        if self.outgoing.is_empty() {
-            self.end();
-        }
-    }
-
     // What waits is dropped with the connection.
-    pub(crate) fn end(&mut self) {
+    fn end(&mut self) {
         self.over = true;
         // A socket that is closed already is no error.
         let _ = self.stream.shutdown(Shutdown::Both);

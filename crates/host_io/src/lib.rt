@@ -15,7 +15,6 @@ mod owner;
 mod queue;
 mod sockets;
 mod streams;
-mod unfinished;
 
 pub use children::{Children, SystemChild, Unwaited};
 pub use disk::FileDisks;

@@ -10,7 +10,7 @@ use std::io::Write;
 use std::marker::Model;
 
 // The most bytes that wait: a frame of the greatest length.
-pub(crate) const MOST: usize = 8_388_612;
+const MOST: usize = 8_388_612;
 
 // The longest frame that is kept together with others, so that one write takes them.
 const SHORT: usize = 4096;

@@ -5,7 +5,7 @@ ghost use Rattle.zen_link.specs.Told.{has_low_conn, most_connections};
 use crate::connection::{Connection, Heard, Prefix, UNNUMBERED, is_later};
 use crate::framing::{Framing, Piece, Target};
 use crate::link::passed;
-use crate::queue::{FrameQueue, MOST};
+use crate::queue::FrameQueue;
 use bytes::Bytes;
 use indexmap::IndexMap;
 use mio::net::{TcpListener, TcpStream};
@@ -45,18 +45,12 @@ const LOBBY: usize = 8;
 // The longest wait for a number, in milliseconds: as long as a peer that has just connected may take to show its first frame.
 const ADMISSION_MS: u64 = 1000;
 
-// So many frames of the greatest length may be unfinished beside one of each listed peer: of nodes that are not listed, of which
-// one leads at a time and sends long frames, and for a moment the one before it.
-const UNLISTED: u64 = 4;
-
 // A listed peer.
 #[derive(Clone, Copy)]
 pub(crate) struct Listed {
     address: SocketAddr,
     // Before this moment it is not dialled.
     dial_from: u64,
-    // Its frames up to this count were those of one that was lost.
-    lost_at: u64,
 }
 
 // A connection that found no number. Nothing of it was read.
@@ -86,43 +80,13 @@ enum Verdict {
     Leaves,
 }
 
-// The newest connection of a kind, if there is one.
+// How a connection leads to a node.
 #[derive(Clone, Copy)]
-struct Newest {
-    // The age of no connection is 0.
-    age: u64,
-    number: Option<u64>,
-}
-
-// The connections that lead to a node, those that are over left aside.
-#[derive(Clone, Copy)]
-struct Ways {
-    // The newest that the node's frames came on.
-    heard: Newest,
-    // The newest that was opened to it.
-    dialled: Newest,
-    // The newest of these that stands.
-    standing: Newest,
-    // How many were opened to it.
-    dials: u64,
-}
-
-// A connection that ends.
-#[derive(Clone, Copy)]
-struct Ended {
-    // The node whose frames it brought, or else the one to which it was opened.
-    node: NodeId,
-    // Whether it was opened to this node, and carried frames there.
-    was_own: bool,
-}
-
-// Which of the connections that came from outside ends first where unfinished frames hold too much.
-#[derive(Clone, Copy)]
-enum Holder {
-    // Of those that name no listed peer, the one that holds most.
-    Stranger,
-    // Of those that name one, the one that came last.
-    Named,
+enum Way {
+    // The node's frames came on it.
+    Heard,
+    // It was opened to the node.
+    Dialled,
 }
 
 // In which order connections lose their numbers.
@@ -187,7 +151,6 @@ impl Sockets {
             let listed = Listed {
                 address,
                 dial_from: 0,
-                lost_at: 0,
             };
             if peers.insert(peer.id, listed).is_err() {
                 return Err(HostError::Memory);
@@ -577,16 +540,18 @@ impl Sockets {
         }
     }
 
-    // Whether it is the one that was opened to a listed peer, or the newest one that brings a listed peer's frames.
+    // Whether it was opened to a listed peer, or is the newest one that brings a listed peer's frames.
     fn leads_to_peer(&self, number: u64, connection: &Connection) -> bool {
-        let Some(id) = connection.peer().or(connection.sender()) else {
-            return false;
-        };
-        if !self.peers.contains_key(&id) {
+        if connection.is_over() {
             return false;
         }
-        let ways = self.ways_to(id);
-        ways.heard.number == Some(number) || ways.opened() == Some(number)
+        if connection.peer().is_some() {
+            return true;
+        }
+        let Some(id) = connection.sender() else {
+            return false;
+        };
+        self.peers.contains_key(&id) && self.newest_by(Way::Heard, id) == Some(number)
     }
 
     fn owed_by(&self, number: u64) -> u64 {
@@ -624,45 +589,36 @@ impl Sockets {
 
     // Puts a connection under a number, in place of the one that has it.
     fn put(&mut self, number: u64, mut connection: Connection) {
-        let ended = self.note_end(number);
+        let node = self.note_end(number);
         if let Some(slot) = self.connections.get_mut(number as usize) {
             connection.set_number(self.poll.registry(), number);
             connection.set_owes_end(matches!(slot, Some(old) if old.was_heard()));
             *slot = Some(connection);
             self.highest = self.highest.max(number);
         }
-        self.note_lost(ended);
+        self.note_lost(node);
     }
 
-    // Notes that the connection with this number ends, if there is one.
-    fn note_end(&mut self, number: u64) -> Option<Ended> {
+    // Notes that the connection with this number ends, if there is one. Gives the node whose frames it brought, or else the
+    // one to which it was opened.
+    fn note_end(&mut self, number: u64) -> Option<NodeId> {
         let Some(Some(connection)) = self.connections.get(number as usize) else {
             return None;
         };
         let sender = connection.sender();
-        let carried = connection.has_written() && connection.peer().is_some();
-        self.has_ended = self.has_ended || sender.is_some() || carried;
-        let node = sender.or(connection.peer())?;
-        let was_own = carried && connection.peer() == Some(node);
-        Some(Ended { node, was_own })
+        self.has_ended = self.has_ended || sender.is_some();
+        sender.or(connection.peer())
     }
 
-    // A connection has ended. Its node is lost where it was opened to the node and carried frames there, whatever names itself so, and
-    // else where no other brings the node's frames; but not where another one stands that was opened to the node.
-    fn note_lost(&mut self, ended: Option<Ended>) {
-        let Some(Ended { node, was_own }) = ended else {
+    // A connection of this node has ended. Where no other brings its frames, it is lost.
+    fn note_lost(&mut self, node: Option<NodeId>) {
+        let Some(id) = node else {
             return;
         };
-        let ways = self.ways_to(node);
-        let is_heard = !was_own && ways.heard.number.is_some();
-        if is_heard || ways.standing.number.is_some() || self.lost.contains(&node) {
+        if self.newest_by(Way::Heard, id).is_some() || self.lost.contains(&id) {
             return;
         }
-        let order = self.next_order();
-        if let Some(listed) = self.peers.get_mut(&node) {
-            listed.lost_at = order;
-        }
-        if self.lost.push_back(node).is_err() {
+        if self.lost.push_back(id).is_err() {
             self.note_error();
         }
     }
@@ -694,8 +650,6 @@ impl Sockets {
             Heard::Bytes(bytes) => {
                 if connection.brings_lines() && bytes.as_slice().ends_with(b"\n") {
                     self.note_line(number);
-                } else if connection.unfinished() > 0 {
-                    self.bound_unfinished();
                 }
                 return Ok(Some(Input::Bytes {
                     conn: number,
@@ -712,62 +666,6 @@ impl Sockets {
             Ok(Some(Input::Closed { conn: number }))
         } else {
             Ok(None)
-        }
-    }
-
-    // Where the unfinished frames of all connections hold too much, one of these ends.
-    fn bound_unfinished(&mut self) {
-        let most = (self.peers.len() as u64)
-            .saturating_add(UNLISTED)
-            .saturating_mul(MOST as u64);
-        if self.unfinished() <= most {
-            return;
-        }
-        let number = self.holder(Holder::Stranger).or(self.holder(Holder::Named));
-        if let Some(Some(connection)) = self.connections.get_mut(number.unwrap_or(OWN) as usize) {
-            connection.end();
-        }
-    }
-
-    // How many bytes of unfinished frames were given.
-    fn unfinished(&self) -> u64 {
-        let mut held = 0u64;
-        for number in 1..=self.highest {
-            if let Some(Some(connection)) = self.connections.get(number as usize) {
-                if !connection.is_over() {
-                    held = held.saturating_add(connection.unfinished());
-                }
-            }
-        }
-        held
-    }
-
-    // The first to end of this kind of connections that hold an unfinished frame.
-    fn holder(&self, kind: Holder) -> Option<u64> {
-        let mut found = None;
-        let mut most = 0;
-        for number in 1..=self.highest {
-            if let Some(Some(connection)) = self.connections.get(number as usize) {
-                let weight = self.weight_of(connection, kind);
-                if weight > most {
-                    most = weight;
-                    found = Some(number);
-                }
-            }
-        }
-        found
-    }
-
-    // How much a connection has of what is ended for, or 0 where it is not ended as one of this kind.
-    fn weight_of(&self, connection: &Connection, kind: Holder) -> u64 {
-        if connection.is_over() || connection.peer().is_some() || connection.unfinished() == 0 {
-            return 0;
-        }
-        let names_peer = matches!(connection.sender(), Some(id) if self.peers.contains_key(&id));
-        match kind {
-            Holder::Stranger if !names_peer => connection.unfinished(),
-            Holder::Named if names_peer => connection.age(),
-            _ => 0,
         }
     }
 
@@ -796,11 +694,11 @@ impl Sockets {
 
     // Forgets the connection with this number, if there is one.
     fn close(&mut self, number: u64) {
-        let ended = self.note_end(number);
+        let node = self.note_end(number);
         if let Some(slot) = self.connections.get_mut(number as usize) {
             *slot = None;
         }
-        self.note_lost(ended);
+        self.note_lost(node);
     }
 
     // Ends the connection that is known by this number, if there is one.
@@ -882,52 +780,29 @@ impl Sockets {
         }
     }
 
-    // The connection that leads to a node. To a listed one it is the one that was opened to it, once that stands: who names
-    // itself so is not believed. Else it is the newest one that its frames came on. A listed one is dialled where that one is
-    // newer than what was opened to it, since a peer that came back after a crash may leave an old one that tells nothing of
-    // its end.
+    // The connection that leads to a node: the newest one that its frames came on, or that was opened to it. A listed one is
+    // dialled where there is none. The newest, since a peer that came back after a crash may leave an old one that tells
+    // nothing of its end.
     fn number_of(&mut self, rt: &impl Net, now: u64, id: NodeId) -> Option<u64> {
-        let ways = self.ways_to(id);
-        if ways.wants_dial() {
-            self.dial(rt, now, id);
-            return self.ways_to(id).best();
+        let heard = self.newest_by(Way::Heard, id);
+        if heard.is_some() {
+            return heard;
         }
-        if ways.dials > 1 {
-            self.end_older(now, id, ways.standing.age);
+        let dialled = self.newest_by(Way::Dialled, id);
+        if dialled.is_some() {
+            return dialled;
         }
-        ways.best()
-    }
-
-    // Ends what was opened to a listed peer before the one of this age, once a dial has had its time to carry frames and
-    // nothing waits any more.
-    fn end_older(&mut self, now: u64, id: NodeId, age: u64) {
-        let dial_from = self.peers.get(&id).map_or(0, |listed| listed.dial_from);
-        if now < dial_from {
-            return;
-        }
-        for number in 1..=self.highest {
-            if let Some(Some(connection)) = self.connections.get_mut(number as usize) {
-                if connection.peer() == Some(id) && connection.age() < age {
-                    connection.end_if_written();
-                }
-            }
-        }
+        self.dial(rt, now, id)
     }
 
     // Opens a connection to a listed peer, if it is time. One that is refused is no fault.
-    fn dial(&mut self, rt: &impl Net, now: u64, id: NodeId) {
-        let Some(address) = self.address_to_dial(now, id) else {
-            return;
-        };
-        let Some(number) = self.place_for_peer() else {
-            return;
-        };
-        let Ok(stream) = TcpStream::connect(rt, address) else {
-            return;
-        };
-        if let Some(connection) = self.registered(stream, Some(id)) {
-            self.put(number, connection);
-        }
+    fn dial(&mut self, rt: &impl Net, now: u64, id: NodeId) -> Option<u64> {
+        let address = self.address_to_dial(now, id)?;
+        let number = self.place_for_peer()?;
+        let stream = TcpStream::connect(rt, address).ok()?;
+        let connection = self.registered(stream, Some(id))?;
+        self.put(number, connection);
+        Some(number)
     }
 
     // Where a listed peer listens, if it is time to dial it. It is not given again too soon.
@@ -940,21 +815,20 @@ impl Sockets {
         Some(listed.address)
     }
 
-    // The connections that lead to a node.
-    fn ways_to(&self, id: NodeId) -> Ways {
-        let lost_at = match self.peers.get(&id) {
-            Some(listed) => listed.lost_at,
-            None => 0,
-        };
-        let mut ways = Ways::NONE;
+    // The number of the newest connection that leads to a node in this way.
+    fn newest_by(&self, way: Way, id: NodeId) -> Option<u64> {
+        let mut found = None;
+        let mut newest = 0;
         for number in 1..=self.highest {
             if let Some(Some(connection)) = self.connections.get(number as usize) {
-                if !connection.is_over() {
-                    ways.note(number, connection, id, lost_at);
+                let is_newer = !connection.is_over() && connection.age() >= newest;
+                if is_newer && leads_to(connection, way) == Some(id) {
+                    newest = connection.age();
+                    found = Some(number);
                 }
             }
         }
-        ways
+        found
     }
 
     // A number without a connection that owes no reply.
@@ -974,60 +848,11 @@ impl Sockets {
     }
 }
 
-impl Newest {
-    const NONE: Newest = Newest {
-        age: 0,
-        number: None,
-    };
-
-    // There is one of this age.
-    fn note(&mut self, number: u64, age: u64) {
-        if age >= self.age {
-            self.age = age;
-            self.number = Some(number);
-        }
-    }
-}
-
-impl Ways {
-    const NONE: Ways = Ways {
-        heard: Newest::NONE,
-        dialled: Newest::NONE,
-        standing: Newest::NONE,
-        dials: 0,
-    };
-
-    // Notes in which ways a connection leads to a node. What came up to a count came from one that was lost.
-    fn note(&mut self, number: u64, connection: &Connection, id: NodeId, lost_at: u64) {
-        let age = connection.age();
-        if connection.sender() == Some(id) && connection.heard() > lost_at {
-            self.heard.note(number, age);
-        }
-        if connection.peer() == Some(id) {
-            self.dials = self.dials.saturating_add(1);
-            self.dialled.note(number, age);
-            if connection.stands() {
-                self.standing.note(number, age);
-            }
-        }
-    }
-
-    // The one that was opened to the node: the newest that stands, or else the newest.
-    fn opened(&self) -> Option<u64> {
-        self.standing.number.or(self.dialled.number)
-    }
-
-    // The one over which frames go.
-    fn best(&self) -> Option<u64> {
-        self.standing
-            .number
-            .or(self.heard.number)
-            .or(self.dialled.number)
-    }
-
-    // Whether a new dial is wanted: none was opened, or what came is newer than it. Two dials at once are enough.
-    fn wants_dial(&self) -> bool {
-        self.dialled.number.is_none() || self.heard.age > self.dialled.age && self.dials < 2
+// The node that a connection leads to in this way.
+fn leads_to(connection: &Connection, way: Way) -> Option<NodeId> {
+    match way {
+        Way::Heard => connection.sender(),
+        Way::Dialled => connection.peer(),
     }
 }
 

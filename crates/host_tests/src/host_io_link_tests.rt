@@ -90,8 +90,6 @@ enum ByClient {
     ReadsWholeFrames,
     // Whether its connection is ended within so many looks.
     IsEnded(u64, bool),
-    // It writes so many zero bytes, while the link goes on.
-    Pours(usize),
 }
 
 // What is done with the link of node a, or what it then gives. Connections go by their numbers.
@@ -101,8 +99,6 @@ enum AtLink {
     Gives(u64, &'static [u8]),
     // The same with no tick before it.
     GivesAtOnce(u64, &'static [u8]),
-    // The next input but for ticks: these bytes, whatever their connection.
-    Brings(&'static [u8]),
     // The next inputs but for ticks: these bytes so many times.
     GivesTimes(u64, &'static [u8], u64),
     // The next input but for ticks: the end of the connection.
@@ -150,8 +146,6 @@ enum Row {
     // At the link of the peer, node b, which is at the address that the link of node a has for it.
     There(AtLink),
     PeerOpens,
-    // The peer opens, and has the address of the link of node a.
-    PeerOpensToo,
     PeerEnds,
     Crowd(ByCrowd),
 }
@@ -242,7 +236,6 @@ fn ask(alloc: Global, link: &mut RealLink, count: u64) -> bool {
 #[derive(Clone, Copy)]
 enum Given {
     Bytes(u64, &'static [u8]),
-    Brought(&'static [u8]),
     Closed(u64),
     Lost(u8),
     Stop,
@@ -253,7 +246,6 @@ fn is(input: &Input, wanted: Given) -> bool {
         (Input::Bytes { conn, bytes }, Given::Bytes(number, wanted)) => {
             *conn == number && bytes.as_slice() == wanted
         }
-        (Input::Bytes { bytes, .. }, Given::Brought(wanted)) => bytes.as_slice() == wanted,
         (Input::Closed { conn }, Given::Closed(number)) => *conn == number,
         (Input::Disconnected { peer }, Given::Lost(letter)) => *peer == id(letter),
         (Input::Stop, Given::Stop) => true,
@@ -322,7 +314,6 @@ fn is_so(rt: &HostRuntime, link: &mut RealLink, row: AtLink) -> bool {
     match row {
         Gives(number, bytes) => gives(link, Given::Bytes(number, bytes), 1),
         GivesAtOnce(number, bytes) => gives_after(link, 0, Given::Bytes(number, bytes)),
-        Brings(bytes) => gives(link, Given::Brought(bytes), 1),
         GivesTimes(number, bytes, times) => gives(link, Given::Bytes(number, bytes), times),
         Closes(number) => gives(link, Given::Closed(number), 1),
         Loses(letter) => gives(link, Given::Lost(letter), 1),
@@ -486,26 +477,6 @@ fn is_ended(link: &mut RealLink, mut client: &TcpStream, looks: u64) -> io::Resu
     Ok(false)
 }
 
-// Writes so many zero bytes, while the link goes on. Whether all were taken.
-fn pours(link: &mut RealLink, mut client: &TcpStream, count: usize) -> io::Result<bool> {
-    client.set_nonblocking(true)?;
-    let zeros = [0u8; 16_384];
-    let mut left = count;
-    for _ in 0..1_000_000 {
-        let Some(piece) = zeros.get(..left.min(zeros.len())) else {
-            break;
-        };
-        match client.write(piece) {
-            Ok(written) => left = left.saturating_sub(written),
-            Err(_) => drop(link.next()),
-        }
-        if left == 0 {
-            return Ok(true);
-        }
-    }
-    Ok(false)
-}
-
 // Whether so many clients come, with the numbers from 1 on where each says a line and is answered.
 fn come(
     rt: &HostRuntime,
@@ -597,9 +568,8 @@ impl World<'_> {
                 Some(peer) => is_so(self.rt, peer, row),
                 None => false,
             },
-            PeerOpens => self.open_peer(false),
-            PeerOpensToo => self.open_peer(true),
-            PeerEnds => self.end_peer(),
+            PeerOpens => self.set_peer(true),
+            PeerEnds => self.set_peer(false),
             Crowd(row) => self.is_crowd_so(row),
         }
     }
@@ -637,20 +607,16 @@ impl World<'_> {
                 Ok(ended) => ended == wanted,
                 Err(_) => false,
             },
-            Pours(count) => pours(link, client, count).unwrap_or(false),
         }
     }
 
-    // The peer listens, and may have the address of the link of node a.
-    fn open_peer(&mut self, knows_node: bool) -> bool {
-        let node = knows_node.then_some((b'a', self.address.as_str()));
-        self.peer = open(self.rt, b'b', self.peer_address.as_str(), node).ok();
-        self.peer.is_some()
-    }
-
-    fn end_peer(&mut self) -> bool {
-        self.peer = None;
-        true
+    fn set_peer(&mut self, opens: bool) -> bool {
+        self.peer = if opens {
+            open(self.rt, b'b', self.peer_address.as_str(), None).ok()
+        } else {
+            None
+        };
+        self.peer.is_some() == opens
     }
 
     fn is_crowd_so(&mut self, row: ByCrowd) -> bool {
@@ -743,67 +709,6 @@ const TWO_LINKS: &[Row] = &[
     Here(Gives(1, ANSWERED)),
     Here(Closes(1)),
     Here(Loses(b'b')),
-];
-
-const STRANGER_NAMES_THE_PEER: &[Row] = &[
-    PeerOpens,
-    Here(Asks(1)),
-    There(Gives(1, ASKED)),
-    // A stranger names the peer. Its frames go where they went.
-    Client(FIRST, Connects),
-    Client(FIRST, Says(ANSWERED)),
-    Here(Gives(2, ANSWERED)),
-    Here(Asks(1)),
-    There(Brings(ASKED)),
-    // Nor is the peer lost as the stranger goes.
-    Client(FIRST, Leaves),
-    Here(Closes(2)),
-    Here(Ticks(1)),
-    // Where the peer ends, it is lost, though a stranger stays that names it; and is not lost again as that one goes.
-    Client(SECOND, Connects),
-    Client(SECOND, Says(ANSWERED)),
-    Here(Gives(2, ANSWERED)),
-    PeerEnds,
-    Here(Loses(b'b')),
-    Client(SECOND, Leaves),
-    Here(Closes(2)),
-    Here(Ticks(1)),
-];
-
-// One behind an address that takes no dial.
-const PEER_THAT_ONLY_DIALS: &[Row] = &[
-    Client(FIRST, Connects),
-    Client(FIRST, Says(ANSWERED)),
-    Here(Gives(1, ANSWERED)),
-    Here(Asks(1)),
-    Client(FIRST, Reads(ASKED)),
-    // A dial that was refused is no loss, and once it is taken the frames go there.
-    Here(Ticks(12)),
-    PeerOpens,
-    Here(Asks(1)),
-    There(Gives(1, ASKED)),
-    Client(FIRST, Leaves),
-    Here(Closes(1)),
-    Here(Ticks(1)),
-];
-
-const BOTH_DIAL: &[Row] = &[
-    PeerOpensToo,
-    Here(Asks(1)),
-    There(SendsTo(b'a', ANSWERED)),
-    There(Brings(ASKED)),
-    Here(Gives(2, ANSWERED)),
-    PeerEnds,
-    Here(Closes(2)),
-    Here(Loses(b'b')),
-    Here(Ticks(1)),
-    // It is back.
-    PeerOpensToo,
-    There(SendsTo(b'a', ANSWERED)),
-    Here(Gives(1, ANSWERED)),
-    Here(Asks(1)),
-    There(Brings(ASKED)),
-    Here(Ticks(1)),
 ];
 
 const SLOW_READER: &[Row] = &[
@@ -904,25 +809,6 @@ const SLOW_AFTER_ITS_END: &[Row] = &[
     Client(FIRST, ReadsSlowly(7, LONG, b"")),
 ];
 
-// Frames of 16,777,215 bytes that are not whole: 41,943,060 of these are held at most where one peer is listed.
-const HALF_FRAMES: &[Row] = &[
-    Client(FIRST, Connects),
-    Client(FIRST, Says(b"\0\xff\xff\xff\x07\x01b\x01a")),
-    Client(FIRST, Pours(15_000_000)),
-    Client(SECOND, Connects),
-    Client(SECOND, Says(b"\0\xff\xff\xff\x07\x01c\x01a")),
-    Client(SECOND, Pours(14_000_000)),
-    Client(THIRD, Connects),
-    Client(THIRD, Says(b"\0\xff\xff\xff\x07\x01d\x01a")),
-    Client(THIRD, Pours(12_000_000)),
-    Client(SECOND, IsEnded(1000, false)),
-    Client(THIRD, Pours(1_500_000)),
-    // The one that holds most ends, but for one that names the peer.
-    Client(SECOND, IsEnded(1000, true)),
-    Client(FIRST, IsEnded(9, false)),
-    Client(THIRD, IsEnded(9, false)),
-];
-
 const LATE_REPLY: &[Row] = &[
     Client(FIRST, Connects),
     Client(FIRST, Says(b"x\n")),
@@ -1008,17 +894,6 @@ const TESTS: &[Test] = &[
         true,
         TWO_LINKS,
     ),
-    (
-        "who_names_a_peer_gets_none_of_its_frames",
-        true,
-        STRANGER_NAMES_THE_PEER,
-    ),
-    (
-        "a_peer_that_only_dials_is_answered",
-        true,
-        PEER_THAT_ONLY_DIALS,
-    ),
-    ("two_nodes_dial_each_other", true, BOTH_DIAL),
     ("a_reader_that_goes_is_forgotten", false, READER_GONE),
     ("idle_connections_give_way", false, IDLE),
     ("clients_lock_no_peer_out", true, ALL_NUMBERS_TAKEN),
@@ -1062,11 +937,6 @@ fn links_carry_what_is_sent_over_them(rt: HostRuntime) -> Result<(), Fail> {
 #[test]
 fn a_long_frame_comes_whole_to_a_slow_reader(rt: HostRuntime) -> Result<(), Fail> {
     run(&rt, &("slow reader", false, SLOW_READER))
-}
-
-#[test]
-fn half_frames_hold_no_more_than_their_bound(rt: HostRuntime) -> Result<(), Fail> {
-    run(&rt, &("half frames", true, HALF_FRAMES))
 }
 
 #[test]
