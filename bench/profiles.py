@@ -53,8 +53,9 @@ def leads_on(program, top, profile):
         # Each line leads to one node. So all of them are stalled: the leader reaches nobody, and nobody reaches it.
         for line in lines.values():
             line.goes.clear()
-        begun = time.monotonic()
-        while time.monotonic() - begun < CUT_SECONDS and state_of(nodes[leader]) is not None:
+        begun, mark = time.monotonic(), b'mode %s candidate' % leader.encode()
+        before = nodes[leader].read(0).count(mark)
+        while time.monotonic() - begun < CUT_SECONDS and nodes[leader].read(0).count(mark) == before:
             time.sleep(0.1)
         return time.monotonic() - begun
     finally:
