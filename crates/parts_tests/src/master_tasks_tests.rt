@@ -9,6 +9,12 @@ use std::alloc::{AllocError, Global};
 use std::test::*;
 use voting_config::{IdList, NodeSet, VotingConfig};
 
+// The first profile, whose configurations may shrink.
+const FIRST: Policy = Policy {
+    shrink: true,
+    second: false,
+};
+
 // What a client wishes, as it stands in a table.
 #[derive(Clone, Copy)]
 enum Wish {
@@ -171,7 +177,7 @@ fn next(
 ) -> Result<Vec<u8>, AllocError> {
     let committed = VotingConfig::of_list(&accepted.config);
     let votes = votes("a,b,c,d");
-    let next = tasks.next_state(id("a"), term, accepted, &committed, &votes, true)?;
+    let next = tasks.next_state(id("a"), term, accepted, &committed, &votes, FIRST)?;
     written(alloc, &next)
 }
 
@@ -463,7 +469,7 @@ fn after_changes(
 ) -> Result<Next, AllocError> {
     let mut tasks = changed(alloc, removals, additions);
     let committed = VotingConfig::of_list(&accepted.config);
-    tasks.next_state(id("a"), 2, accepted, &committed, &votes("a,b,c"), true)
+    tasks.next_state(id("a"), 2, accepted, &committed, &votes("a,b,c"), FIRST)
 }
 
 fn has(next: &Next, voters: &VotingConfig, members: &str) -> bool {
