@@ -6,7 +6,6 @@ mod inspections;
 mod losses;
 mod nodes;
 mod passages;
-mod profiles;
 mod random;
 mod rescues;
 mod rows;

@@ -12,8 +12,8 @@ use std::alloc::{AllocError, Global};
 use std::test::Fail;
 use zen_app::Status;
 
-/// A node alone is elected, and has its first state committed.
-pub const LEADER: Passage = &[
+// A node alone is elected, and has its first state committed.
+const LEADER: Passage = &[
     "> tick a 0 7",
     "act a ok boot a",
     "> tick a 8 7",
