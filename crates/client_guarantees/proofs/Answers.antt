@@ -25,7 +25,7 @@ use Rattle.master_tasks.specs.declared.waiting.Waiting.{Waiting}
 use Rattle.master_tasks.specs.declared.waiting.Outgoing.{Outgoing}
 use Rattle.master_tasks.specs.Queue.{Tasks}
 use Rattle.master_tasks.specs.Replying.{answer_to}
-use Rattle.master_tasks.specs.Answering.{answers_by, left_by, excluded_by, failed, committed_in, unless_voting, exclusion_done, if_late, timed_out, nothing_new}
+use Rattle.master_tasks.specs.Answering.{answers_by, left_by, excluded_by, failed, committed_in, unless_voting, applied_in, if_late, timed_out, nothing_new}
 use Rattle.master_tasks.specs.Processing.{Processing, AnsweredAtOnce, Makes, excluding, clearing, processing, processing_once, Processed, before_all, and_then, with_next}
 use Rattle.master_tasks.specs.NextState.{Leader as NextMaster, value_before, processed_by, next_value, is_accepted, is_write, has_writes, is_nothing_new, next_answers}
 use Rattle.master_tasks.proofs.Sameness.{stays_accepted}
@@ -233,14 +233,14 @@ module _ (h : History) (s : Settings) (P : Basis) (g : List Waiting) where
         true-if w (w.processed && not (some_among asked committed)) (Some (answer.Acked id)) None
         (λ t. granted done id d w (no_voter _ w.request.ask asked e (subst (λ (l : List Id). some_among asked l ≡ false) c (not-true _ (and_parts _ _ t).1))) (λ x y. no_write w.request.ask asked e y) (a (and_parts _ _ t).0)) (λ t. tt)
 
-    pub true-exclusion_done : (ws : List Waiting) → Each (λ w. w.processed ≡ true → IsAmong done w) ws → AllTrue h s P g (answers_by (exclusion_done committed id) ws)
-    true-exclusion_done ws e =
-        true-answers_by (exclusion_done committed id) ws
-        (each-map (λ w. w.processed ≡ true → IsAmong done w) (λ w. IsTrueOption w (exclusion_done committed id w)) (λ w a. voting_one w (excluded_by w.request.ask) refl a) ws e)
+    pub true-applied_in : (ws : List Waiting) → Each (λ w. w.processed ≡ true → IsAmong done w) ws → AllTrue h s P g (answers_by (applied_in committed id) ws)
+    true-applied_in ws e =
+        true-answers_by (applied_in committed id) ws
+        (each-map (λ w. w.processed ≡ true → IsAmong done w) (λ w. IsTrueOption w (applied_in committed id w)) (λ w a. voting_one w (excluded_by w.request.ask) refl a) ws e)
 
     nothing_new_one : (w : Waiting) → IsAmong done w × IsNoWrite s w → IsTrueOption w (nothing_new committed id w)
     nothing_new_one w a =
-        true-if w (is_some (excluded_by w.request.ask)) (exclusion_done committed id w) (Some (answer.Acked id))
+        true-if w (is_some (excluded_by w.request.ask)) (applied_in committed id w) (Some (answer.Acked id))
         (λ e. voting_one w (excluded_by w.request.ask) refl (λ t. a.0)) (λ e. granted done id d w (excludes_none _ w.request.ask e) (λ x y. absurd (both_ways _ (a.1 x) y)) a.0)
 
     true-nothing_new : (ws : List Waiting) → Each (λ w. IsAmong done w × IsNoWrite s w) ws → AllTrue h s P g (answers_by (nothing_new committed id) ws)

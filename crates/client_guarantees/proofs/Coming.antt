@@ -32,7 +32,7 @@ use Rattle.policy_model.specs.declared.events.Mode.TheVariants.{Candidate, Leade
 use Rattle.policy_model.specs.declared.events.Event.{Event}
 use Rattle.policy_model.specs.declared.events.Event.TheVariants.{Start, Tick, Frame as FrameCame, Client as LineCame, Disconnected as PeerGone}
 use Rattle.policy_model.specs.declared.events.DropCause.{DropCause}
-use Rattle.policy_model.specs.Events.{Met, Heard, PeersAsked, ElectionOff, ElectionSet, RoundBegun, RoundAnswered, RoundEnded, Joined, FollowersChecked, FollowerAnswered, LeaderChecked, LeaderAnswered, Queued, ExclusionsTimedOut, CommitAcked, ExclusionsAcked, StateMade, HandedOver, PeerLost, LeaderLost, Item, Opens, Begins, Acts, ChangesMode, Drops, Sends, Replies, Notes, Log, And, added}
+use Rattle.policy_model.specs.Events.{Met, Heard, PeersAsked, ElectionOff, ElectionSet, RoundBegun, RoundAnswered, RoundEnded, Joined, FollowersChecked, FollowerAnswered, LeaderChecked, LeaderAnswered, Queued, ExclusionsTimedOut, CommitAcked, AppliedAnswered, StateMade, HandedOver, PeerLost, LeaderLost, Item, Opens, Begins, Acts, ChangesMode, Drops, Sends, Replies, Notes, Log, And, added}
 use Rattle.policy_model.specs.Entries.{Life, NotBegun, Opened, Lived, Did, Gone, Bad, NoMemory, Unread, log_of}
 use Rattle.policy_model.specs.Follows.{Follows, IsNext, IsStruck, Here, Later, without_output, items_of}
 use Rattle.policy_model.specs.Views.{View, view_of}
@@ -154,11 +154,11 @@ module _ (P : ℕ → Request → Type 0) where
     q-on_response : (v : View) (p : Id) (id : StateId) → Queues P (publications.on_response s v p id)
     q-on_response v p id = search (q-if, q-sends_commit, Ends, Other)
 
-    q-acks_exclusions : (v : View) → Queues P (publications.acks_exclusions s v)
-    q-acks_exclusions v = q-append _ _ (q-replies s _) (Other _ _ refl Ends)
+    q-answers_applied : (v : View) → Queues P (publications.answers_applied s v)
+    q-answers_applied v = q-append _ _ (q-replies s _) (Other _ _ refl Ends)
 
     q-told_commit : (v : View) (p : Id) (id : StateId) → Queues P (publications.on_commit s v p id)
-    q-told_commit v p id = search (q-append, q-if, q-acks_exclusions, q-goes_on, Ends, Other)
+    q-told_commit v p id = search (q-append, q-if, q-answers_applied, q-goes_on, Ends, Other)
 
     -- discovery
     q-seeks_master : (v : View) (p : Id) (master : Option Id) (t : ℕ) → Queues P (discovery.seeks_master s v p master t)
@@ -238,8 +238,8 @@ module _ (P : ℕ → Request → Type 0) where
     q-ticks v word Leader = q-ticks_leader v
     q-ticks v word (Follower leader) = q-checks_leader v leader v.leader_check
 
-    q-leads_anew : (v : View) → Queues P (disconnects.leads_anew s v)
-    q-leads_anew v =
+    q-stands_anew : (v : View) → Queues P (disconnects.stands_anew s v)
+    q-stands_anew v =
         q-then s v _ (λ u. elections.stands_for_election s u (u.node.term + 1)) (q-becomes_candidate v)
         (λ u. q-stands_for_election u (u.node.term + 1))
 
@@ -248,7 +248,7 @@ module _ (P : ℕ → Request → Type 0) where
     q-loses v p Leader =
         q-if _ _ []
         (q-then s v (disconnects.drops_follower s p) (disconnects.goes_on_with_rest s) (Other _ _ refl (Other _ _ refl Ends))
-        (λ u. q-if (disconnects.keeps_quorum s u) _ _ (q-goes_on u) (q-leads_anew u)))
+        (λ u. q-if (disconnects.keeps_quorum s u) _ _ (q-goes_on u) (q-stands_anew u)))
         Ends
     q-loses v p (Follower leader) = q-if (same leader p) _ [] (q-append _ _ (q-becomes_candidate v) (Other _ _ refl Ends)) Ends
 
@@ -319,7 +319,7 @@ fits_other P (Notes (LeaderAnswered good)) e = tt
 fits_other P (Notes (Queued conn request)) e = absurd (true≢false e)
 fits_other P (Notes ExclusionsTimedOut) e = tt
 fits_other P (Notes CommitAcked) e = tt
-fits_other P (Notes ExclusionsAcked) e = tt
+fits_other P (Notes AppliedAnswered) e = tt
 fits_other P (Notes StateMade) e = tt
 fits_other P (Notes HandedOver) e = tt
 fits_other P (Notes (PeerLost id)) e = tt
@@ -369,7 +369,7 @@ one_queued P l (Notes (Queued conn request)) c r f (inl e) = inl (subst (λ (x :
 one_queued P l (Notes (Queued conn request)) c r f (inr q) = inr q
 one_queued P l (Notes ExclusionsTimedOut) c r f q = inr q
 one_queued P l (Notes CommitAcked) c r f q = inr q
-one_queued P l (Notes ExclusionsAcked) c r f q = inr q
+one_queued P l (Notes AppliedAnswered) c r f q = inr q
 one_queued P l (Notes StateMade) c r f q = inr q
 one_queued P l (Notes HandedOver) c r f q = inr q
 one_queued P l (Notes (PeerLost id)) c r f q = inr q

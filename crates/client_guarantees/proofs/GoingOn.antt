@@ -98,12 +98,12 @@ module _ (h : History) (U : IsUnique h) (s : Settings) (P : Basis) where
     older : List Waiting
     done : List Waiting
     processed : k ≡ older ++ done
-    had : MeetsEach (next_value (as_master s v.node) v.tasks) done
-    wait : Each (IsAmong done) (processed_by (as_master s v.node) v.tasks).waiting
+    had : MeetsEach (next_value (master_now s v) v.tasks) done
+    wait : Each (IsAmong done) (processed_by (master_now s v) v.tasks).waiting
 
-  makes_now : (v : View) (g : List Waiting) → HasBase v g → MakesNow v (g ++ processed_into_next (as_master s v.node) v.tasks)
+  makes_now : (v : View) (g : List Waiting) → HasBase v g → MakesNow v (g ++ processed_into_next (master_now s v) v.tasks)
   makes_now v g b =
-      let l = as_master s v.node in
+      let l = master_now s v in
       let new = processed_into_next l v.tasks in
       record {
         older = b.older;
@@ -113,9 +113,9 @@ module _ (h : History) (U : IsUnique h) (s : Settings) (P : Basis) where
         wait = (next_folded l v.tasks b.done b.had b.among).wait;
       }
 
-  left_among : (v : View) (k : List Waiting) (n : MakesNow v k) → Each (λ w. w.processed ≡ true → IsAmong n.done w) (tasks_after (as_master s v.node) v.tasks).waiting
+  left_among : (v : View) (k : List Waiting) (n : MakesNow v k) → Each (λ w. w.processed ≡ true → IsAmong n.done w) (tasks_after (master_now s v) v.tasks).waiting
   left_among v k n =
-      let l = as_master s v.node in
+      let l = master_now s v in
       each-after (λ w. w.processed ≡ true → IsAmong n.done w) l v.tasks (each-map (IsAmong n.done) (λ w. w.processed ≡ true → IsAmong n.done w) (λ w a t. a) (processed_by l v.tasks).waiting n.wait)
 
   -- the state is published, or the node gives up
@@ -132,12 +132,12 @@ module _ (h : History) (U : IsUnique h) (s : Settings) (P : Basis) where
   -- what is made of the answers, where nothing is new, and where something is
   keeps-made : (v : View) (g : List Waiting) → HasBase v g
       → Each (MayBeShown h P v.node.accepted) v.tasks.waiting → Each (Of P.came) v.tasks.waiting
-      → (HasReached P.low v → is_nothing_new (as_master s v.node) v.tasks ≡ true → IsSettled h P.low (as_master s v.node))
-      → (is_nothing_new (as_master s v.node) v.tasks ≡ true → MakesNow v (g ++ processed_into_next (as_master s v.node) v.tasks)
-      → Each (Of P.came) (moved s v (Notes StateMade)).tasks.waiting → Holds h s P (place (moved s v (Notes StateMade)) (g ++ processed_into_next (as_master s v.node) v.tasks)))
+      → (HasReached P.low v → is_nothing_new (master_now s v) v.tasks ≡ true → IsSettled h P.low (master_now s v))
+      → (is_nothing_new (master_now s v) v.tasks ≡ true → MakesNow v (g ++ processed_into_next (master_now s v) v.tasks)
+      → Each (Of P.came) (moved s v (Notes StateMade)).tasks.waiting → Holds h s P (place (moved s v (Notes StateMade)) (g ++ processed_into_next (master_now s v) v.tasks)))
       → doing.is_leader v.mode ≡ true → v.node.election_won ≡ true → Keeps h s P v g (next.makes_state s v) (Holds h s P)
   keeps-made v g b shown came c same l won =
-      let master = as_master s v.node in
+      let master = master_now s v in
       let k = g ++ processed_into_next master v.tasks in
       let n = makes_now v g b in
       let made = moved s v (Notes StateMade) in
@@ -156,7 +156,7 @@ module _ (h : History) (U : IsUnique h) (s : Settings) (P : Basis) where
       from : (o : Option Publication) → v.publication ≡ o → next.is_in_flight o ≡ false → Keeps h s P v g (next.makes_state s v) (Holds h s P)
       from None n e =
           let new = r.ready.leads.new l n in
-          let never = something_new (as_master s v.node) v.tasks new.older in
+          let never = something_new (master_now s v) v.tasks new.older in
           let nobody = r.ready.empty l n m in
           keeps-made v g (base-empty v g nobody) (subst (Each (MayBeShown h P v.node.accepted)) (sym nobody) tt) r.came
           (λ q t. absurd (both_ways _ never t)) (λ t k c. absurd (both_ways _ never t)) l (r.ready.leads.won l)
@@ -175,8 +175,8 @@ module _ (h : History) (U : IsUnique h) (s : Settings) (P : Basis) where
           nothing : {q : Option Publication} → q ≡ None → q ≡ Some p → ⊥
           nothing k n = cc
 
-          same : (made : IsMade h s P (place v g)) → made.as_published.state ≡ v.node.accepted → is_nothing_new (as_master s v.node) v.tasks ≡ true → MakesNow v (g ++ processed_into_next (as_master s v.node) v.tasks)
-              → Each (Of P.came) (moved s v (Notes StateMade)).tasks.waiting → Holds h s P (place (moved s v (Notes StateMade)) (g ++ processed_into_next (as_master s v.node) v.tasks))
+          same : (made : IsMade h s P (place v g)) → made.as_published.state ≡ v.node.accepted → is_nothing_new (master_now s v) v.tasks ≡ true → MakesNow v (g ++ processed_into_next (master_now s v) v.tasks)
+              → Each (Of P.came) (moved s v (Notes StateMade)).tasks.waiting → Holds h s P (place (moved s v (Notes StateMade)) (g ++ processed_into_next (master_now s v) v.tasks))
           same made accepted t k left = record {
             stands = record {
               leads = record { idle = λ x. absurd (both_ways _ x l); won = r.ready.leads.won; new = r.ready.leads.new; done = r.ready.leads.done };
@@ -189,10 +189,10 @@ module _ (h : History) (U : IsUnique h) (s : Settings) (P : Basis) where
               older = k.older;
               done = k.done;
               processed = k.processed;
-              had = subst (λ (x : ClusterValue). MeetsEach x k.done) ((stays_accepted (as_master s v.node) v.tasks t).value ∙ sym (ap (λ (x : ClusterState). x.value) accepted)) k.had;
-              among = left_among v (g ++ processed_into_next (as_master s v.node) v.tasks) k;
-              new = each-after (λ w. w.processed ≡ true → IsNewFor s P (published_id v.node) w) (as_master s v.node) v.tasks
-                  (each-map (IsNoWrite s) (λ w. w.processed ≡ true → IsNewFor s P (published_id v.node) w) (λ w n p y z. absurd (both_ways _ (n y) z)) (processed_by (as_master s v.node) v.tasks).waiting (no_writes s (as_master s v.node) v.tasks refl t));
+              had = subst (λ (x : ClusterValue). MeetsEach x k.done) ((stays_accepted (master_now s v) v.tasks t).value ∙ sym (ap (λ (x : ClusterState). x.value) accepted)) k.had;
+              among = left_among v (g ++ processed_into_next (master_now s v) v.tasks) k;
+              new = each-after (λ w. w.processed ≡ true → IsNewFor s P (published_id v.node) w) (master_now s v) v.tasks
+                  (each-map (IsNoWrite s) (λ w. w.processed ≡ true → IsNewFor s P (published_id v.node) w) (λ w n p y z. absurd (both_ways _ (n y) z)) (processed_by (master_now s v) v.tasks).waiting (no_writes s (master_now s v) v.tasks refl t));
             };
             came = left;
           }

@@ -96,7 +96,7 @@ module _ (Seen : Settings → Log → Type 0) (h : History) where
       → setting_under key p.state.value.settings ≡ setting_after_all key (setting_under key p.parent.value.settings) requests
   made_of s moment p requests m key =
       ap (λ (v : ClusterValue). setting_under key v.settings) m.value
-      ∙ last_setting_stands (as_master s (node_of moment)) (tasks_of s moment) key
+      ∙ last_setting_stands (master_of s moment) (tasks_of s moment) key
       ∙ ap (λ (ws : List Waiting). setting_after_all key (setting_under key (node_of moment).accepted.value.settings) ws) (sym m.processed)
       ∙ ap (λ (x : ClusterState). setting_after_all key (setting_under key x.value.settings) requests) (sym m.parent)
 

@@ -26,7 +26,7 @@ use Rattle.world_model.proofs.System.{IsSystem}
 use Rattle.world_model.proofs.Moments.{Begins as IsBeginning, begins_self, begins_trans}
 use Rattle.policy_model.specs.declared.settings.Settings.{Settings}
 use Rattle.policy_model.specs.declared.events.Event.{Event}
-use Rattle.policy_model.specs.Events.{Met, Heard, PeersAsked, ElectionOff, ElectionSet, RoundBegun, RoundAnswered, RoundEnded, Joined, FollowersChecked, FollowerAnswered, LeaderChecked, LeaderAnswered, Queued, ExclusionsTimedOut, CommitAcked, ExclusionsAcked, StateMade, HandedOver, PeerLost, LeaderLost, Item, Log, Opens, Begins, Acts, ChangesMode, Drops, Sends, Replies, Notes, And, added, acts_of}
+use Rattle.policy_model.specs.Events.{Met, Heard, PeersAsked, ElectionOff, ElectionSet, RoundBegun, RoundAnswered, RoundEnded, Joined, FollowersChecked, FollowerAnswered, LeaderChecked, LeaderAnswered, Queued, ExclusionsTimedOut, CommitAcked, AppliedAnswered, StateMade, HandedOver, PeerLost, LeaderLost, Item, Log, Opens, Begins, Acts, ChangesMode, Drops, Sends, Replies, Notes, And, added, acts_of}
 use Rattle.policy_model.specs.Entries.{Life, NotBegun, Opened, Lived, Did, Gone, Bad, NoMemory, Unread, log_of, replies_of}
 use Rattle.policy_model.specs.LookBacks.{node_of}
 use Rattle.policy_model.specs.Views.{View, view_of}
@@ -98,7 +98,7 @@ processed-And s l (Notes (LeaderAnswered good)) e = refl
 processed-And s l (Notes (Queued conn request)) e = refl
 processed-And s l (Notes ExclusionsTimedOut) e = refl
 processed-And s l (Notes CommitAcked) e = refl
-processed-And s l (Notes ExclusionsAcked) e = refl
+processed-And s l (Notes AppliedAnswered) e = refl
 processed-And s l (Notes StateMade) e = refl
 processed-And s l (Notes HandedOver) e = refl
 processed-And s l (Notes (PeerLost id)) e = refl

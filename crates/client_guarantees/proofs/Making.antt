@@ -132,8 +132,8 @@ module _ (s : Settings) where
   p-on_response : (v : View) (p : Id) (id : StateId) → IsPlain (publications.on_response s v p id)
   p-on_response v p id = search (p-if, p-sends_commit, Ends, Other)
 
-  p-acks_exclusions : (v : View) → IsPlain (publications.acks_exclusions s v)
-  p-acks_exclusions v = p-append _ _ (p-replies s _) (Other _ _ refl Ends)
+  p-answers_applied : (v : View) → IsPlain (publications.answers_applied s v)
+  p-answers_applied v = p-append _ _ (p-replies s _) (Other _ _ refl Ends)
 
   -- discovery
   p-seeks_master : (v : View) (p : Id) (master : Option Id) (t : ℕ) → IsPlain (discovery.seeks_master s v p master t)
@@ -196,8 +196,8 @@ module _ (s : Settings) where
   p-takes_config v (Some config) = Other _ _ refl Ends
 
   -- connections that have ended
-  p-leads_anew : (v : View) → IsPlain (disconnects.leads_anew s v)
-  p-leads_anew v =
+  p-stands_anew : (v : View) → IsPlain (disconnects.stands_anew s v)
+  p-stands_anew v =
       p-then s v _ (λ u. elections.stands_for_election s u (u.node.term + 1)) (p-becomes_candidate v)
       (λ u. p-stands_for_election u (u.node.term + 1))
 
@@ -246,10 +246,10 @@ module _ (s : Settings) where
 
   m-makes_state : (v : View) → Making s v (next.makes_state s v)
   m-makes_state v =
-      let answers = next_answers (as_master s v.node) v.tasks in
+      let answers = next_answers (master_now s v) v.tasks in
       making-append s v (doing.reply_all s answers) _ (plainly s v _ (p-replies s answers))
-      (subst (λ (u : View). Making s u (Notes StateMade ∷ (if is_nothing_new (as_master s v.node) v.tasks then [] else next.publishes s v (moved s v (Notes StateMade))))) (sym (past-replies s v answers))
-      (m-made v (is_nothing_new (as_master s v.node) v.tasks)))
+      (subst (λ (u : View). Making s u (Notes StateMade ∷ (if is_nothing_new (master_now s v) v.tasks then [] else next.publishes s v (moved s v (Notes StateMade))))) (sym (past-replies s v answers))
+      (m-made v (is_nothing_new (master_now s v) v.tasks)))
 
   m-leads_on : (v : View) → Making s v (next.leads_on s v)
   m-leads_on v = making-if s v (next.wants_votes s v) _ _ (plainly s v _ (p-asks_votes s v)) (m-makes_state v)
@@ -290,7 +290,7 @@ module _ (s : Settings) where
       let act : Act = Commit (record { source = p; term = id.term; version = id.version }) in
       let after = doing.after_act s v act in
       Passed v (doing.act_now s v act) _ refl
-      (making-if s after (doing.takes s v act && doing.is_leader after.mode) _ [] (making-then s after _ (next.goes_on s) (p-acks_exclusions s after) m-goes_on) (Ended after))
+      (making-if s after (doing.takes s v act && doing.is_leader after.mode) _ [] (making-then s after _ (next.goes_on s) (p-answers_applied s after) m-goes_on) (Ended after))
 
   m-ticks_leader : (v : View) → Making s v (rules.ticks_leader s v)
   m-ticks_leader v =
@@ -307,7 +307,7 @@ module _ (s : Settings) where
   m-loses v p Leader =
       making-if s v _ _ []
       (making-then s v _ (disconnects.goes_on_with_rest s) (Other _ _ refl (Other _ _ refl Ends))
-      (λ u. making-if s u (disconnects.keeps_quorum s u) _ _ (m-goes_on u) (plainly s u _ (p-leads_anew s u))))
+      (λ u. making-if s u (disconnects.keeps_quorum s u) _ _ (m-goes_on u) (plainly s u _ (p-stands_anew s u))))
       (Ended v)
   m-loses v p (Follower leader) = plainly s v _ (p-if (same leader p) _ [] (p-append _ _ (p-becomes_candidate s v) (Other _ _ refl Ends)) Ends)
 
@@ -348,7 +348,7 @@ module _ (s : Settings) where
 -- ---- the same by recursion, with what the node was as the note just before said that a state is made
 
 abbrev pub IsMadeOf : Settings → Option View → Act → Type 0
-IsMadeOf s (Some v) (Value version config value) = value ≡ next_value (as_master s v.node) v.tasks
+IsMadeOf s (Some v) (Value version config value) = value ≡ next_value (master_now s v) v.tasks
 IsMadeOf s None (Value version config value) = ⊥
 IsMadeOf s made act = Unit {0}
 

@@ -6,10 +6,10 @@ use Rattle.cluster_state.specs.States.{id_of}
 use Rattle.cluster_state.specs.declared.request.Request.{Request}
 use Rattle.master_tasks.specs.declared.waiting.Waiting.{Waiting}
 use Rattle.master_tasks.specs.Queue.{arriving}
-use Rattle.master_tasks.specs.Answering.{timed_out, committed_in, exclusion_done}
+use Rattle.master_tasks.specs.Answering.{timed_out, committed_in, applied_in}
 use Rattle.policy_model.specs.declared.settings.Settings.{Settings}
 use Rattle.policy_model.specs.declared.events.Mode.TheVariants.{Candidate, Leader, Follower}
-use Rattle.policy_model.specs.Events.{Met, Heard, PeersAsked, ElectionOff, ElectionSet, RoundBegun, RoundAnswered, RoundEnded, Joined, FollowersChecked, FollowerAnswered, LeaderChecked, LeaderAnswered, Queued, ExclusionsTimedOut, CommitAcked, ExclusionsAcked, StateMade, HandedOver, PeerLost, LeaderLost, Opens, Begins, Acts, ChangesMode, Drops, Sends, Replies, Notes, Log, NoItems, And}
+use Rattle.policy_model.specs.Events.{Met, Heard, PeersAsked, ElectionOff, ElectionSet, RoundBegun, RoundAnswered, RoundEnded, Joined, FollowersChecked, FollowerAnswered, LeaderChecked, LeaderAnswered, Queued, ExclusionsTimedOut, CommitAcked, AppliedAnswered, StateMade, HandedOver, PeerLost, LeaderLost, Opens, Begins, Acts, ChangesMode, Drops, Sends, Replies, Notes, Log, NoItems, And}
 use Rattle.policy_model.specs.Parts.{as_master, published_id}
 use Rattle.policy_model.specs.LookBacks.{node_of, moment_of, tasks_of}
 use Rattle.policy_model.proofs.Fits.{waiting-added}
@@ -61,8 +61,8 @@ queued s (And l (Notes (LeaderAnswered good))) = record { waiting = (queued s l)
 queued s (And l (Notes (Queued conn request))) = record { waiting = each-last (λ w. WasQueued (And l (Notes (Queued conn request))) w.conn w.request) (tasks_of s l).waiting (arriving conn (moment_of l) request) (each-map (λ w. WasQueued l w.conn w.request) (λ w. WasQueued (And l (Notes (Queued conn request))) w.conn w.request) (λ w q. inr q) (tasks_of s l).waiting (queued s l).waiting) (inl (refl, refl)); processed = each-map (λ w. WasQueued l w.conn w.request) (λ w. WasQueued (And l (Notes (Queued conn request))) w.conn w.request) (λ w q. inr q) (processed_of s l) (queued s l).processed }
 queued s (And l (Notes ExclusionsTimedOut)) = record { waiting = each-left (λ w. WasQueued l w.conn w.request) (timed_out (node_of l).committed (moment_of l)) (tasks_of s l).waiting (queued s l).waiting; processed = (queued s l).processed }
 queued s (And l (Notes CommitAcked)) = record { waiting = each-left (λ w. WasQueued l w.conn w.request) (committed_in (published_id (node_of l))) (tasks_of s l).waiting (queued s l).waiting; processed = (queued s l).processed }
-queued s (And l (Notes ExclusionsAcked)) = record { waiting = each-left (λ w. WasQueued l w.conn w.request) (exclusion_done (node_of l).committed (id_of (node_of l).accepted)) (tasks_of s l).waiting (queued s l).waiting; processed = (queued s l).processed }
-queued s (And l (Notes StateMade)) = record { waiting = each-after (λ w. WasQueued l w.conn w.request) (as_master s (node_of l)) (tasks_of s l) (of-waiting (WasQueued l) (as_master s (node_of l)) (tasks_of s l) (queued s l).waiting); processed = each-append (λ w. WasQueued l w.conn w.request) (processed_of s l) (processed_into_next (as_master s (node_of l)) (tasks_of s l)) (queued s l).processed (of-new (WasQueued l) (as_master s (node_of l)) (tasks_of s l) (queued s l).waiting) }
+queued s (And l (Notes AppliedAnswered)) = record { waiting = each-left (λ w. WasQueued l w.conn w.request) (applied_in (node_of l).committed (node_of l).accepted) (tasks_of s l).waiting (queued s l).waiting; processed = (queued s l).processed }
+queued s (And l (Notes StateMade)) = record { waiting = each-after (λ w. WasQueued l w.conn w.request) (master_of s l) (tasks_of s l) (of-waiting (WasQueued l) (master_of s l) (tasks_of s l) (queued s l).waiting); processed = each-append (λ w. WasQueued l w.conn w.request) (processed_of s l) (processed_into_next (master_of s l) (tasks_of s l)) (queued s l).processed (of-new (WasQueued l) (master_of s l) (tasks_of s l) (queued s l).waiting) }
 queued s (And l (Notes HandedOver)) = record { waiting = (queued s l).waiting; processed = (queued s l).processed }
 queued s (And l (Notes (PeerLost id))) = record { waiting = (queued s l).waiting; processed = (queued s l).processed }
 queued s (And l (Notes LeaderLost)) = record { waiting = (queued s l).waiting; processed = (queued s l).processed }

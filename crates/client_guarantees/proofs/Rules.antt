@@ -37,7 +37,7 @@ use Rattle.policy_model.specs.declared.events.Mode.{Mode}
 use Rattle.policy_model.specs.declared.events.Event.{Event}
 use Rattle.policy_model.specs.declared.events.Mode.TheVariants.{Candidate, Leader, Follower}
 use Rattle.policy_model.specs.declared.events.Event.TheVariants.{Start, Tick, Frame as FrameCame, Client as LineCame, Disconnected as PeerGone}
-use Rattle.policy_model.specs.Events.{Acts, Notes, LeaderChecked, Queued, ExclusionsTimedOut, CommitAcked, ExclusionsAcked, Met, Heard}
+use Rattle.policy_model.specs.Events.{Acts, Notes, LeaderChecked, Queued, ExclusionsTimedOut, CommitAcked, AppliedAnswered, Met, Heard}
 use Rattle.policy_model.specs.Parts.{published_id}
 use Rattle.policy_model.specs.Views.{View}
 use Rattle.policy_model.specs.Moves.{moved}
@@ -58,7 +58,7 @@ use Rattle.client_guarantees.proofs.Leading.{IsDone, won-join}
 use Rattle.client_guarantees.proofs.Folding.{Each, each-last, IsAmong, Of}
 use Rattle.client_guarantees.proofs.Holding.{IsMade, Holds, IsReadyToGo, ready-holds, idle-holds, holds-waiting, holds-publish, holds-commit, holds-response, holds-join, each-left}
 use Rattle.client_guarantees.proofs.Steady.{Standing, steady_stands, Calm, Still, steady-if, steady-sends, steady-stands_for_election, steady-waits_for_election, steady-pre_vote_reply, steady-on_pre_vote_answer, steady-asks_peers, steady-checks_followers}
-use Rattle.client_guarantees.proofs.Answers.{IsProcessedFor, each-processed, left_none, HasDone, true-committed_in, true-exclusion_done, true-timed_out}
+use Rattle.client_guarantees.proofs.Answers.{IsProcessedFor, each-processed, left_none, HasDone, true-committed_in, true-applied_in, true-timed_out}
 use Rattle.client_guarantees.proofs.Modes.{keeps-becomes_candidate, keeps-becomes_follower, keeps-on_start_join, keeps-raises_term}
 use Rattle.client_guarantees.proofs.Backing.{HasCommittedId, TakesCommit, IsUnique}
 use Rattle.client_guarantees.proofs.GoingOn.{reached, reached_last, accepted_made, keeps-goes_on, keeps-leads, keeps-takes_member}
@@ -189,18 +189,18 @@ module _ (h : History) (U : IsUnique h) (s : Settings) (P : Basis) where
       (λ c. nothing after g k)))
       (λ e. nothing v g i)
 
-  keeps-acks_exclusions : (v : View) (g : List Waiting) → doing.is_leader v.mode ≡ true → TakesCommit h v.node → v.node.committed ≡ v.node.accepted.config → Holds h s P (place v g) → Keeps h s P v g (publications.acks_exclusions s v) (Holds h s P)
+  keeps-answers_applied : (v : View) (g : List Waiting) → doing.is_leader v.mode ≡ true → TakesCommit h v.node → v.node.committed ≡ v.node.accepted.config → Holds h s P (place v g) → Keeps h s P v g (publications.answers_applied s v) (Holds h s P)
   unfolding accepted_done
-  keeps-acks_exclusions v g l c settled i = from v.publication refl
+  keeps-answers_applied v g l c settled i = from v.publication refl
     where
-      from : (o : Option Publication) → v.publication ≡ o → Keeps h s P v g (publications.acks_exclusions s v) (Holds h s P)
+      from : (o : Option Publication) → v.publication ≡ o → Keeps h s P v g (publications.answers_applied s v) (Holds h s P)
       from None n = not_both v.node.accepted.term v.node.term c.term (i.stands.leads.new l n).older
       from (Some p) n =
           let m = i.made l (ap is_some n) in
           let d : IsDone h v.node = record { committed = c.committed; last = record { term = c.term; version = c.version (i.stands.leads.won l) }; settled = settled } in
-          keeps-answers h s P v g _ (Notes ExclusionsAcked ∷ []) (Holds h s P)
-          (λ q. true-exclusion_done h s P g m.done v.node.committed (id_of v.node.accepted) (accepted_done v g m d (reached_last P.low v (i.stands.leads.won l) d.last q)) (settled ∙ sym (ap (λ (x : ClusterState). x.config) d.committed.is_state)) v.tasks.waiting m.among)
-          (keeps-item h s P v g (Notes ExclusionsAcked) [] (Holds h s P) refl (λ b. nothing _ g (holds-waiting h s P (place v g) _ (left_none _ _) (λ P e. each-left P _ _ e) i)))
+          keeps-answers h s P v g _ (Notes AppliedAnswered ∷ []) (Holds h s P)
+          (λ q. true-applied_in h s P g m.done v.node.committed (id_of v.node.accepted) (accepted_done v g m d (reached_last P.low v (i.stands.leads.won l) d.last q)) (settled ∙ sym (ap (λ (x : ClusterState). x.config) d.committed.is_state)) v.tasks.waiting m.among)
+          (keeps-item h s P v g (Notes AppliedAnswered) [] (Holds h s P) refl (λ b. nothing _ g (holds-waiting h s P (place v g) _ (left_none _ _) (λ P e. each-left P _ _ e) i)))
 
   keeps-told_commit : (v : View) (g : List Waiting) (p : Id) (id : StateId) → Holds h s P (place v g) → Keeps h s P v g (publications.on_commit s v p id) (Holds h s P)
   keeps-told_commit v g p id i =
@@ -214,7 +214,7 @@ module _ (h : History) (U : IsUnique h) (s : Settings) (P : Basis) where
       (λ e.
       let parts = and_parts _ _ e in
       let settled = settled_now s v (record { source = p; term = id.term; version = id.version }) (doing.reply_now s v act) parts.0 in
-      keeps-then h s P after g _ (next.goes_on s) (Holds h s P) (Holds h s P) (keeps-acks_exclusions after g parts.1 (taken (b.0 parts.0)) settled k) go_on)
+      keeps-then h s P after g _ (next.goes_on s) (Holds h s P) (Holds h s P) (keeps-answers_applied after g parts.1 (taken (b.0 parts.0)) settled k) go_on)
       (λ e. nothing after g k))
 
   -- discovery
@@ -318,8 +318,8 @@ module _ (h : History) (U : IsUnique h) (s : Settings) (P : Basis) where
   keeps-ticks v g word (Follower leader) e i = keeps-checks_leader v g leader v.leader_check i
 
   -- connections that have ended
-  keeps-leads_anew : (v : View) (g : List Waiting) → Keeps h s P v g (disconnects.leads_anew s v) (Holds h s P)
-  keeps-leads_anew v g =
+  keeps-stands_anew : (v : View) (g : List Waiting) → Keeps h s P v g (disconnects.stands_anew s v) (Holds h s P)
+  keeps-stands_anew v g =
       keeps-then h s P v g _ (λ u. elections.stands_for_election s u (u.node.term + 1)) (Holds h s P) (Holds h s P) (keeps-becomes_candidate h s P v g)
       (λ u f k. keeps-steady h s P u f _ (Holds h s P) (steady-stands_for_election s u (u.node.term + 1)) k)
 
@@ -329,7 +329,7 @@ module _ (h : History) (U : IsUnique h) (s : Settings) (P : Basis) where
       keeps-if h s P v g _ _ [] (Holds h s P)
       (λ e. keeps-then h s P v g (disconnects.drops_follower s p) (disconnects.goes_on_with_rest s) (Holds h s P) (Holds h s P)
       (keeps-steady h s P v g _ (Holds h s P) (Still _ _ refl (Still _ _ refl Calm)) i)
-      (λ u f k. keeps-if h s P u f (disconnects.keeps_quorum s u) _ _ (Holds h s P) (λ d. go_on u f k) (λ d. keeps-leads_anew u f)))
+      (λ u f k. keeps-if h s P u f (disconnects.keeps_quorum s u) _ _ (Holds h s P) (λ d. go_on u f k) (λ d. keeps-stands_anew u f)))
       (λ e. nothing v g i)
   keeps-loses v g p (Follower leader) i =
       keeps-if h s P v g (same leader p) _ [] (Holds h s P)

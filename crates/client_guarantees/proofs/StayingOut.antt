@@ -8,7 +8,7 @@ use Rattle.voting_config.proofs.Sets.{same_is, has-set_of}
 use Rattle.cluster_state.specs.declared.state.ClusterState.{ClusterState}
 use Rattle.cluster_state.specs.declared.state.ClusterValue.{ClusterValue}
 use Rattle.reconfigurator.specs.Targets.{candidates_of, chosen_of, size_of, target_of}
-use Rattle.master_tasks.specs.NextState.{next_value, next_config, config_for, may_move}
+use Rattle.master_tasks.specs.NextState.{next_value, next_config, config_for, may_reconfigure}
 use Rattle.master_tasks.specs.declared.policy.Policy.{Policy}
 use Rattle.client_guarantees.specs.Laws.{LawExcludedStayOut}
 
@@ -91,7 +91,7 @@ module _ (id : Id) where
       → has id value.exclusions ≡ true → has id accepted.config ≡ false → has id (config_for me term accepted committed votes policy value) ≡ false
   unfolding config_for
   lacks-config me term accepted committed votes policy value h k =
-      elim (may_move term accepted committed policy) as (λ b. has id (if b then target_of (among value.members votes) value.exclusions me accepted.config policy.shrink else accepted.config) ≡ false) [
+      elim (may_reconfigure term accepted committed policy) as (λ b. has id (if b then target_of (among value.members votes) value.exclusions me accepted.config policy.shrink else accepted.config) ≡ false) [
         | true ↦ lacks-target (among value.members votes) value.exclusions me accepted.config policy.shrink h k
         | false ↦ k
       ]

@@ -25,7 +25,7 @@ use Rattle.world_model.specs.Replies.{is_taken}
 use Rattle.world_model.specs.Histories.{History}
 use Rattle.world_model.specs.Safety.{Published, IsCommitted, IsIdAtMost}
 use Rattle.policy_model.specs.declared.settings.Settings.{Settings}
-use Rattle.policy_model.specs.Events.{Met, Heard, PeersAsked, ElectionOff, ElectionSet, RoundBegun, RoundAnswered, RoundEnded, Joined, FollowersChecked, FollowerAnswered, LeaderChecked, LeaderAnswered, Queued, ExclusionsTimedOut, CommitAcked, ExclusionsAcked, StateMade, HandedOver, PeerLost, LeaderLost, Item, Opens, Begins, Acts, ChangesMode, Drops, Sends, Replies, Notes}
+use Rattle.policy_model.specs.Events.{Met, Heard, PeersAsked, ElectionOff, ElectionSet, RoundBegun, RoundAnswered, RoundEnded, Joined, FollowersChecked, FollowerAnswered, LeaderChecked, LeaderAnswered, Queued, ExclusionsTimedOut, CommitAcked, AppliedAnswered, StateMade, HandedOver, PeerLost, LeaderLost, Item, Opens, Begins, Acts, ChangesMode, Drops, Sends, Replies, Notes}
 use Rattle.policy_model.specs.Parts.{as_master}
 use Rattle.policy_model.specs.Entries.{replies_in, replies_of}
 use Rattle.policy_model.specs.Views.{View}
@@ -50,7 +50,7 @@ place v g = record { stands = standing v; processed = g }
 
 -- what was processed with one more item, told by what the node was
 abbrev pub processed_after : Settings → View → List Waiting → Item → List Waiting
-processed_after s v g (Notes StateMade) = g ++ processed_into_next (as_master s v.node) v.tasks
+processed_after s v g (Notes StateMade) = g ++ processed_into_next (master_now s v) v.tasks
 processed_after s v g i = g
 
 abbrev pub processed_after_all : Settings → View → List Waiting → List Item → List Waiting
@@ -86,7 +86,7 @@ unmade s v g (Notes (LeaderAnswered good)) e = refl
 unmade s v g (Notes (Queued conn request)) e = refl
 unmade s v g (Notes ExclusionsTimedOut) e = refl
 unmade s v g (Notes CommitAcked) e = refl
-unmade s v g (Notes ExclusionsAcked) e = refl
+unmade s v g (Notes AppliedAnswered) e = refl
 unmade s v g (Notes StateMade) e = absurd (true≢false e)
 unmade s v g (Notes HandedOver) e = refl
 unmade s v g (Notes (PeerLost id)) e = refl
@@ -116,7 +116,7 @@ steady_unmade (Notes (LeaderAnswered good)) e = refl
 steady_unmade (Notes (Queued conn request)) e = refl
 steady_unmade (Notes ExclusionsTimedOut) e = refl
 steady_unmade (Notes CommitAcked) e = refl
-steady_unmade (Notes ExclusionsAcked) e = refl
+steady_unmade (Notes AppliedAnswered) e = refl
 steady_unmade (Notes StateMade) e = absurd (true≢false (sym e))
 steady_unmade (Notes HandedOver) e = refl
 steady_unmade (Notes (PeerLost id)) e = refl
@@ -151,8 +151,8 @@ grown_item s v g (Notes (LeaderAnswered good)) = record { more = []; is = sym (a
 grown_item s v g (Notes (Queued conn request)) = record { more = []; is = sym (append-nil g) }
 grown_item s v g (Notes ExclusionsTimedOut) = record { more = []; is = sym (append-nil g) }
 grown_item s v g (Notes CommitAcked) = record { more = []; is = sym (append-nil g) }
-grown_item s v g (Notes ExclusionsAcked) = record { more = []; is = sym (append-nil g) }
-grown_item s v g (Notes StateMade) = record { more = processed_into_next (as_master s v.node) v.tasks; is = refl }
+grown_item s v g (Notes AppliedAnswered) = record { more = []; is = sym (append-nil g) }
+grown_item s v g (Notes StateMade) = record { more = processed_into_next (master_now s v) v.tasks; is = refl }
 grown_item s v g (Notes HandedOver) = record { more = []; is = sym (append-nil g) }
 grown_item s v g (Notes (PeerLost id)) = record { more = []; is = sym (append-nil g) }
 grown_item s v g (Notes LeaderLost) = record { more = []; is = sym (append-nil g) }

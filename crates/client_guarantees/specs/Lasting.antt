@@ -10,8 +10,7 @@ use Rattle.world_model.specs.Safety.{Published, published, IsIdAtMost}
 use Rattle.policy_model.specs.declared.settings.Settings.{Settings}
 use Rattle.policy_model.specs.Events.{Log, NoItems, And}
 use Rattle.policy_model.specs.Entries.{Life}
-use Rattle.policy_model.specs.Parts.{as_master}
-use Rattle.policy_model.specs.LookBacks.{node_of, tasks_of}
+use Rattle.policy_model.specs.LookBacks.{node_of, master_of, tasks_of}
 use Rattle.client_guarantees.specs.Asked.{is_about, setting_under, setting_after_all}
 use Rattle.client_guarantees.specs.Processed.{processed_into_next}
 use Rattle.client_guarantees.specs.Replies.{IsAcked}
@@ -25,8 +24,8 @@ IsPartOf part (And l i) = (part ≡ And l i) ⊎ IsPartOf part l
 pub record IsMadeAt (s : Settings) (moment : Log) (p : Published) (requests : List Waiting) : Type 0 where
   pub publisher : p.publisher ≡ s.me
   pub parent : p.parent ≡ (node_of moment).accepted
-  pub value : p.state.value ≡ next_value (as_master s (node_of moment)) (tasks_of s moment)
-  pub processed : requests ≡ processed_into_next (as_master s (node_of moment)) (tasks_of s moment)
+  pub value : p.state.value ≡ next_value (master_of s moment) (tasks_of s moment)
+  pub processed : requests ≡ processed_into_next (master_of s moment) (tasks_of s moment)
 
 -- The state was made of `base`, by one publication after another, each at such a moment of a run; and these requests were processed into
 -- them, in order.

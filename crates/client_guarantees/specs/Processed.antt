@@ -1,5 +1,5 @@
 -- Part of the statement: which requests a node processed into the states that it made, and by which lines requests came.
-use Rattle.std.specs.Prelude.{◌≡◌, ◌⊎◌, ℕ, Ok, List, [], ◌∷◌, ◌++◌, true, cond, if◌then◌else◌}
+use Rattle.std.specs.Prelude.{◌≡◌, ◌⊎◌, ℕ, Bool, Ok, List, [], ◌∷◌, ◌++◌, true, cond, if◌then◌else◌}
 use Rattle.cluster_state.specs.declared.state.ClusterState.{ClusterState}
 use Rattle.cluster_state.specs.declared.state.ClusterValue.{ClusterValue}
 use Rattle.cluster_state.specs.declared.state.StateId.{StateId}
@@ -15,8 +15,7 @@ use Rattle.policy_model.specs.declared.events.Event.{Event}
 use Rattle.policy_model.specs.declared.events.Event.TheVariants.{Client as LineCame}
 use Rattle.policy_model.specs.Events.{Opens, Notes, StateMade, Log, NoItems, And}
 use Rattle.policy_model.specs.Entries.{Life, NotBegun, Opened, Lived, Did, log_of}
-use Rattle.policy_model.specs.Parts.{as_master}
-use Rattle.policy_model.specs.LookBacks.{node_of, tasks_of}
+use Rattle.policy_model.specs.LookBacks.{node_of, master_of, tasks_of}
 
 -- a request that makes a value is processed by this, unless it was before
 abbrev pub processed_by_this : Waiting → Processing → List Waiting
@@ -24,21 +23,21 @@ processed_by_this w (AnsweredAtOnce answer) = []
 processed_by_this w (Makes value) = if w.processed then [] else record w { processed = true } ∷ []
 
 -- the requests that are processed now, from the first on, each on the value so far
-abbrev pub processed_from : ClusterState → ClusterValue → List Waiting → List Waiting
-processed_from accepted value [] = []
-processed_from accepted value (w ∷ ws) =
-    processed_by_this w (processing_once accepted value w)
-    ++ processed_from accepted (value_after value (processing_once accepted value w)) ws
+abbrev pub processed_from : Bool → ClusterState → ClusterValue → List Waiting → List Waiting
+processed_from second accepted value [] = []
+processed_from second accepted value (w ∷ ws) =
+    processed_by_this w (processing_once second accepted value w)
+    ++ processed_from second accepted (value_after value (processing_once second accepted value w)) ws
 
 -- those that are processed into the next state
 unfoldable pub processed_into_next : NextMaster → Tasks → List Waiting
-processed_into_next l t = processed_from l.accepted (value_before l.me t l.accepted.value) t.waiting
+processed_into_next l t = processed_from l.policy.second l.accepted (value_before l.me t l.accepted.value) t.waiting
 
 -- the requests that a node has processed since it was opened last, in order
 abbrev pub processed_of : Settings → Log → List Waiting
 processed_of s NoItems = []
 processed_of s (And l (Opens found)) = []
-processed_of s (And l (Notes StateMade)) = processed_of s l ++ processed_into_next (as_master s (node_of l)) (tasks_of s l)
+processed_of s (And l (Notes StateMade)) = processed_of s l ++ processed_into_next (master_of s l) (tasks_of s l)
 processed_of s (And l i) = processed_of s l
 
 -- the event is a line of this connection that is read as this request

@@ -51,7 +51,7 @@ use Rattle.policy_model.specs.declared.events.Event.{Event}
 use Rattle.policy_model.specs.declared.events.Event.TheVariants.{Start, Tick, Frame as FrameCame, Client as LineCame, Disconnected as PeerGone}
 use Rattle.policy_model.specs.declared.events.DropCause.{DropCause}
 use Rattle.policy_model.specs.declared.events.DropCause.TheVariants.{Checks, Lag, Disconnect}
-use Rattle.policy_model.specs.Events.{Note, Met, Heard, HandedOver, PeerLost, RoundEnded, RoundBegun, RoundAnswered, ElectionSet, ElectionOff, PeersAsked, ExclusionsAcked, FollowersChecked, ExclusionsTimedOut, Joined, Queued, LeaderChecked, StateMade, CommitAcked, Item, ChangesMode, Drops, Sends, Replies, Notes}
+use Rattle.policy_model.specs.Events.{Note, Met, Heard, HandedOver, PeerLost, RoundEnded, RoundBegun, RoundAnswered, ElectionSet, ElectionOff, PeersAsked, AppliedAnswered, FollowersChecked, ExclusionsTimedOut, Joined, Queued, LeaderChecked, StateMade, CommitAcked, Item, ChangesMode, Drops, Sends, Replies, Notes}
 use Rattle.policy_model.specs.Parts.{as_master}
 use Rattle.policy_model.specs.Views.{View}
 use Rattle.policy_model.specs.Moves.{moved, moved_all, noted, mode_changed}
@@ -252,8 +252,8 @@ module _ (s : Settings) where
         Meeting (p ∷ ids) _ met (Saying p _ [] refl h (leader-named v.mode n.mode, n.term, each-with_id is_id s.me (known_set u.finder) mine (all-known u.finder (peers-met v.finder (p ∷ ids) n.peers met))) Silent)
 
   -- publications
-  calm-acks_exclusions : (v : View) → IsCalm s (publications.acks_exclusions s v)
-  calm-acks_exclusions v = calm-append s _ _ (calm-replies _) (Noting ExclusionsAcked [] refl Silent)
+  calm-answers_applied : (v : View) → IsCalm s (publications.answers_applied s v)
+  calm-answers_applied v = calm-append s _ _ (calm-replies _) (Noting AppliedAnswered [] refl Silent)
 
   -- checks
   calm-checks_followers : (v : View) → NamedView v → IsCalm s (checks.checks_followers s v)
@@ -326,16 +326,16 @@ module _ (s : Settings) (mine : is_id s.me ≡ true) (initial : IsIdSet s.initia
   allowed-publishes : (ms : List Message) (v : View) → FitView v → IsAllowed s ms (moved s v (Notes StateMade)) (next.publishes s v (moved s v (Notes StateMade)))
   allowed-publishes ms v f =
       ByAct ms (moved s v (Notes StateMade)) (next.value_act s v) _ refl tt
-      (next-config-fits (as_master s v.node) v.tasks mine f.node.accepted f.tasks, next-value-fits (as_master s v.node) v.tasks mine f.node.accepted f.tasks, omega (arith, f.names.version))
+      (next-config-fits (master_now s v) v.tasks mine f.node.accepted f.tasks, next-value-fits (master_now s v) v.tasks mine f.node.accepted f.tasks, omega (arith, f.names.version))
       (allowed-when _ _ (doing.takes s (moved s v (Notes StateMade)) (next.value_act s v)) _ _
-      (λ e. allowed-sends _ _ (next.value_now s v).members (message.Publish (next.state_now s v)) (members-fit (next.value_now s v) (next-value-fits (as_master s v.node) v.tasks mine f.node.accepted f.tasks)) tt (λ to. known ms _ _ (value-sends s.me v.node _ _ _ e)))
+      (λ e. allowed-sends _ _ (next.value_now s v).members (message.Publish (next.state_now s v)) (members-fit (next.value_now s v) (next-value-fits (master_now s v) v.tasks mine f.node.accepted f.tasks)) tt (λ to. known ms _ _ (value-sends s.me v.node _ _ _ e)))
       (allowed-calm s _ _ _ (calm-becomes_candidate s (doing.after_act s (moved s v (Notes StateMade)) (next.value_act s v)))))
 
   allowed-makes_state : (ms : List Message) (v : View) → FitView v → IsAllowed s ms v (next.makes_state s v)
   allowed-makes_state ms v f =
-      allowed-replies ms v (next_answers (as_master s v.node) v.tasks) _
+      allowed-replies ms v (next_answers (master_now s v) v.tasks) _
       (ByNote ms v StateMade _ tt
-      (allowed-when ms (moved s v (Notes StateMade)) (is_nothing_new (as_master s v.node) v.tasks) [] _ (λ e. Ended _ _) (allowed-publishes ms v f)))
+      (allowed-when ms (moved s v (Notes StateMade)) (is_nothing_new (master_now s v) v.tasks) [] _ (λ e. Ended _ _) (allowed-publishes ms v f)))
 
   allowed-leads_on : (ms : List Message) (v : View) → FitView v → IsAllowed s ms v (next.leads_on s v)
   allowed-leads_on ms v f = allowed-when ms v (next.wants_votes s v) _ _ (λ e. allowed-calm s ms v _ (calm-asks_votes s mine v f.names)) (allowed-makes_state ms v f)
@@ -445,7 +445,7 @@ module _ (s : Settings) (mine : is_id s.me ≡ true) (initial : IsIdSet s.initia
       let after = doing.after_act s v act in
       ByAct ms v act _ refl sent tt
       (allowed-when _ after _ _ []
-      (λ e. allowed-then _ after _ (next.goes_on s) (fit-acted s v act (Answered (doing.reply_now s v act)) f tt) (allowed-calm s _ after _ (calm-acks_exclusions s after)) (λ u ns g c. allowed-goes_on ns u g))
+      (λ e. allowed-then _ after _ (next.goes_on s) (fit-acted s v act (Answered (doing.reply_now s v act)) f tt) (allowed-calm s _ after _ (calm-answers_applied s after)) (λ u ns g c. allowed-goes_on ns u g))
       (Ended _ _))
 
   -- checks
@@ -511,8 +511,8 @@ module _ (s : Settings) (mine : is_id s.me ≡ true) (initial : IsIdSet s.initia
   allowed-message ms v p (message.LeaderAnswer good) f t = allowed-when ms v (doing.follows_node v.mode p) _ [] (λ e. ByNote ms v _ _ tt (Ended ms _)) (Ended ms v)
 
   -- connections that have ended
-  allowed-leads_anew : (ms : List Message) (v : View) → FitView v → IsAllowed s ms v (disconnects.leads_anew s v)
-  allowed-leads_anew ms v f =
+  allowed-stands_anew : (ms : List Message) (v : View) → FitView v → IsAllowed s ms v (disconnects.stands_anew s v)
+  allowed-stands_anew ms v f =
       allowed-then ms v _ (λ u. elections.stands_for_election s u (u.node.term + 1)) f (allowed-calm s ms v _ (calm-becomes_candidate s v))
       (λ u ns g c. allowed-calm s ns u _ (calm-stands_for_election s mine u (u.node.term + 1) g.names))
 
@@ -522,7 +522,7 @@ module _ (s : Settings) (mine : is_id s.me ≡ true) (initial : IsIdSet s.initia
       allowed-when ms v (has p (follower_ids v.followers.watched)) _ []
       (λ e. allowed-then ms v (disconnects.drops_follower s p) (disconnects.goes_on_with_rest s) f
       (allowed-calm s ms v _ (Dropping p Disconnect _ (id-among p (follower_ids v.followers.watched) f.names.watched e) (Noting (PeerLost p) [] refl Silent)))
-      (λ u ns g c. allowed-when ns u (disconnects.keeps_quorum s u) _ _ (λ d. allowed-goes_on ns u g) (allowed-leads_anew ns u g)))
+      (λ u ns g c. allowed-when ns u (disconnects.keeps_quorum s u) _ _ (λ d. allowed-goes_on ns u g) (allowed-stands_anew ns u g)))
       (Ended ms v)
   allowed-loses ms v p (Follower leader) f =
       allowed-calm s ms v _ (calm-if s (same leader p) _ [] (calm-append s _ _ (calm-becomes_candidate s v) (Noting _ [] refl Silent)) Silent)

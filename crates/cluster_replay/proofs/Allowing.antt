@@ -41,7 +41,7 @@ use Rattle.policy_model.specs.declared.settings.Settings.{Settings}
 use Rattle.policy_model.specs.declared.events.Mode.{Mode}
 use Rattle.policy_model.specs.declared.events.Mode.TheVariants.{Candidate, Leader, Follower}
 use Rattle.policy_model.specs.declared.events.DropCause.{DropCause}
-use Rattle.policy_model.specs.Events.{Note, Met, Heard, PeersAsked, ElectionOff, ElectionSet, RoundBegun, RoundAnswered, RoundEnded, Joined, FollowersChecked, FollowerAnswered, LeaderChecked, LeaderAnswered, Queued, ExclusionsTimedOut, CommitAcked, ExclusionsAcked, StateMade, HandedOver, PeerLost, LeaderLost, Item, Acts, ChangesMode, Drops, Sends, Replies, Notes}
+use Rattle.policy_model.specs.Events.{Note, Met, Heard, PeersAsked, ElectionOff, ElectionSet, RoundBegun, RoundAnswered, RoundEnded, Joined, FollowersChecked, FollowerAnswered, LeaderChecked, LeaderAnswered, Queued, ExclusionsTimedOut, CommitAcked, AppliedAnswered, StateMade, HandedOver, PeerLost, LeaderLost, Item, Acts, ChangesMode, Drops, Sends, Replies, Notes}
 use Rattle.policy_model.specs.Entries.{frames_in}
 use Rattle.policy_model.specs.Joins.{join_from}
 use Rattle.policy_model.specs.Parts.{all_to_be_added, as_master, finished, followers_ticked, follower_answered, heard, met, peers_asked, responded, state_finished}
@@ -298,8 +298,8 @@ fit-noted s v (LeaderAnswered good) f n = record { node = f.node; tasks = f.task
 fit-noted s v (Queued conn request) f n = record { node = f.node; tasks = record { additions = f.tasks.additions; waiting = each_append _ v.tasks.waiting _ f.tasks.waiting (n, tt) }; names = record { term = f.names.term; version = f.names.version; mode = f.names.mode; peers = f.names.peers; publication = f.names.publication; watched = f.names.watched } }
 fit-noted s v ExclusionsTimedOut f n = record { node = f.node; tasks = fit-left _ v.tasks f.tasks; names = record { term = f.names.term; version = f.names.version; mode = f.names.mode; peers = f.names.peers; publication = f.names.publication; watched = f.names.watched } }
 fit-noted s v CommitAcked f n = record { node = f.node; tasks = fit-left _ v.tasks f.tasks; names = record { term = f.names.term; version = f.names.version; mode = f.names.mode; peers = f.names.peers; publication = f.names.publication; watched = f.names.watched } }
-fit-noted s v ExclusionsAcked f n = record { node = f.node; tasks = fit-left _ v.tasks f.tasks; names = record { term = f.names.term; version = f.names.version; mode = f.names.mode; peers = f.names.peers; publication = f.names.publication; watched = f.names.watched } }
-fit-noted s v StateMade f n = record { node = f.node; tasks = fit-after (as_master s v.node) v.tasks f.tasks; names = record { term = f.names.term; version = f.names.version; mode = f.names.mode; peers = f.names.peers; publication = f.names.publication; watched = f.names.watched } }
+fit-noted s v AppliedAnswered f n = record { node = f.node; tasks = fit-left _ v.tasks f.tasks; names = record { term = f.names.term; version = f.names.version; mode = f.names.mode; peers = f.names.peers; publication = f.names.publication; watched = f.names.watched } }
+fit-noted s v StateMade f n = record { node = f.node; tasks = fit-after (master_now s v) v.tasks f.tasks; names = record { term = f.names.term; version = f.names.version; mode = f.names.mode; peers = f.names.peers; publication = f.names.publication; watched = f.names.watched } }
 fit-noted s v HandedOver f n = record { node = f.node; tasks = f.tasks; names = record { term = f.names.term; version = f.names.version; mode = f.names.mode; peers = f.names.peers; publication = f.names.publication; watched = f.names.watched } }
 fit-noted s v (PeerLost id) f n = record { node = f.node; tasks = f.tasks; names = record { term = f.names.term; version = f.names.version; mode = f.names.mode; peers = peers-unanswered id v.finder.peers f.names.peers; publication = f.names.publication; watched = some-followers (λ (x : WatchedNode). not (same x.id id)) v.followers.watched f.names.watched } }
 fit-noted s v LeaderLost f n = record { node = f.node; tasks = f.tasks; names = record { term = f.names.term; version = f.names.version; mode = f.names.mode; peers = f.names.peers; publication = f.names.publication; watched = f.names.watched } }

@@ -24,7 +24,7 @@ use Rattle.world_model.proofs.Moments.{Begins as IsBeginning, begins_trans}
 use Rattle.world_model.proofs.System.{origin}
 use Rattle.policy_model.specs.declared.settings.Settings.{Settings}
 use Rattle.policy_model.specs.declared.events.Event.{Event}
-use Rattle.policy_model.specs.Events.{Met, Heard, PeersAsked, ElectionOff, ElectionSet, RoundBegun, RoundAnswered, RoundEnded, Joined, FollowersChecked, FollowerAnswered, LeaderChecked, LeaderAnswered, Queued, ExclusionsTimedOut, CommitAcked, ExclusionsAcked, StateMade, HandedOver, PeerLost, LeaderLost, Item, Opens, Begins, Acts, ChangesMode, Drops, Sends, Replies, Notes, Log, NoItems, And, added, acts_of}
+use Rattle.policy_model.specs.Events.{Met, Heard, PeersAsked, ElectionOff, ElectionSet, RoundBegun, RoundAnswered, RoundEnded, Joined, FollowersChecked, FollowerAnswered, LeaderChecked, LeaderAnswered, Queued, ExclusionsTimedOut, CommitAcked, AppliedAnswered, StateMade, HandedOver, PeerLost, LeaderLost, Item, Opens, Begins, Acts, ChangesMode, Drops, Sends, Replies, Notes, Log, NoItems, And, added, acts_of}
 use Rattle.policy_model.specs.Entries.{Life, NotBegun, Opened, Lived, Did, Gone, Bad, NoMemory, Unread, log_of}
 use Rattle.policy_model.specs.Follows.{Follows, items_of}
 use Rattle.policy_model.specs.LookBacks.{node_of, tasks_of}
@@ -70,7 +70,7 @@ record WasMadeIn (s : Settings) (log : Log) (g : NodeHistory) (value : ClusterVa
   moment : Log
   part : IsPartOf moment log
   acts : acts_of moment ≡ g
-  is : value ≡ next_value (as_master s (node_of moment)) (tasks_of s moment)
+  is : value ≡ next_value (master_of s moment) (tasks_of s moment)
 
 grown : (s : Settings) (l : Log) (is : List Item) (g : NodeHistory) (value : ClusterValue) → WasMadeIn s l g value → WasMadeIn s (added l is) g value
 grown s l is g value m = record { moment = m.moment; part = part-added m.moment l is m.part; acts = m.acts; is = m.is }
@@ -110,7 +110,7 @@ last_after s l v (Notes (LeaderAnswered good)) e = tt
 last_after s l v (Notes (Queued conn request)) e = tt
 last_after s l v (Notes ExclusionsTimedOut) e = tt
 last_after s l v (Notes CommitAcked) e = tt
-last_after s l v (Notes ExclusionsAcked) e = tt
+last_after s l v (Notes AppliedAnswered) e = tt
 last_after s l v (Notes HandedOver) e = tt
 last_after s l v (Notes (PeerLost id)) e = tt
 last_after s l v (Notes LeaderLost) e = tt
@@ -123,12 +123,12 @@ here s l None act u g version config value o last of e =
 here s l (Some v) act u g version config value o last of e =
     let same : act ≡ Value version config value = cc in
     let acts : g ≡ acts_of l = cc in
-    let made : value ≡ next_value (as_master s v.node) v.tasks = subst (IsMadeOf s (Some v)) same of in
+    let made : value ≡ next_value (master_now s v) v.tasks = subst (IsMadeOf s (Some v)) same of in
     record {
       moment = last.before;
       part = inr (subst (IsPartOf last.before) (sym last.is) (inr (part-self last.before)));
       acts = sym (acts ∙ ap acts_of last.is);
-      is = subst (λ (x : View). value ≡ next_value (as_master s x.node) x.tasks) last.view made;
+      is = subst (λ (x : View). value ≡ next_value (master_now s x) x.tasks) last.view made;
     }
 
 -- one item more
@@ -264,7 +264,7 @@ schedule-made schedule is p c = from (has p.publisher schedule.nodes) refl
         record {
           settings = s;
           moment = w.moment;
-          requests = processed_into_next (as_master s (node_of w.moment)) (tasks_of s w.moment);
+          requests = processed_into_next (master_of s w.moment) (tasks_of s w.moment);
           seen = record { node = p.publisher; is_node = listed; settings = refl; part = w.part };
           made = record { publisher = refl; parent = at.parent ∙ ap accepted_of (sym w.acts); value = w.is; processed = refl };
         }
@@ -286,7 +286,7 @@ record WasMadeBy (h : System) (n : Id) (g : NodeHistory) (value : ClusterValue) 
   me : settings.me ≡ n
   seen : HadSeen h settings moment
   accepted : accepted_of g ≡ (node_of moment).accepted
-  is : value ≡ next_value (as_master settings (node_of moment)) (tasks_of settings moment)
+  is : value ≡ next_value (master_of settings moment) (tasks_of settings moment)
 
 -- an act after some others is one of these, or one of the run
 data IsSplit (g before r : NodeHistory) (a : Act) (o : Outcome) : Type 0 where
@@ -398,7 +398,7 @@ module _ (initial : List Id) where
       record {
         settings = w.settings;
         moment = w.moment;
-        requests = processed_into_next (as_master w.settings (node_of w.moment)) (tasks_of w.settings w.moment);
+        requests = processed_into_next (master_of w.settings w.moment) (tasks_of w.settings w.moment);
         seen = w.seen;
         made = record { publisher = sym w.me; parent = at.parent ∙ w.accepted; value = w.is; processed = refl };
       }

@@ -31,7 +31,7 @@ use Rattle.master_tasks.specs.declared.waiting.Waiting.{Waiting}
 use Rattle.master_tasks.specs.Fitting.{HaveGoodSettings}
 use Rattle.master_tasks.specs.Members.{joined, members_after}
 use Rattle.master_tasks.specs.declared.policy.Policy.{Policy}
-use Rattle.master_tasks.specs.NextState.{Leader, config_for, is_nothing_new, may_move, next_config, next_value, processed_by, tasks_after, unacked, value_before}
+use Rattle.master_tasks.specs.NextState.{Leader, config_for, is_nothing_new, may_reconfigure, next_config, next_value, processed_by, tasks_after, unacked, value_before}
 use Rattle.master_tasks.specs.Processing.{Processing, AnsweredAtOnce, Makes, Processed, and_then, before_all, clearing, excluding, processing, processing_once, putting, value_after, with_next}
 use Rattle.master_tasks.specs.Queue.{Tasks}
 use Rattle.master_tasks.proofs.Limits.{fits_next}
@@ -179,7 +179,7 @@ set-target live excluded me config shrink h a c =
 set-config : (me : Id) (term : ℕ) (accepted : ClusterState) (committed votes : List Id) (policy : Policy) (v : ClusterValue) → is_id me ≡ true → IsIdSet accepted.config → IsIdSet v.members → IsIdSet (config_for me term accepted committed votes policy v)
 unfolding config_for
 set-config me term accepted committed votes policy v h c m =
-    elim (may_move term accepted committed policy) as (λ b. IsIdSet (if b then target_of (among v.members votes) v.exclusions me accepted.config policy.shrink else accepted.config)) [
+    elim (may_reconfigure term accepted committed policy) as (λ b. IsIdSet (if b then target_of (among v.members votes) v.exclusions me accepted.config policy.shrink else accepted.config)) [
       | true ↦ set-target (among v.members votes) v.exclusions me accepted.config policy.shrink h (set-filter _ v.members m) c
       | false ↦ c
     ]

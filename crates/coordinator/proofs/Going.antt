@@ -38,7 +38,7 @@ use Rattle.coordinator.proofs.Quiet.{makes_nothing, makes_replies, makes_sends, 
 use Rattle.coordinator.proofs.Becoming.{makes_as}
 
 -- the act that publishes a new state
-pub act_is : (s : Settings) (v : View) (new : NewState) → IsNewState s.me (state_by (as_master s v.node) v.tasks) new → Value new.request.state.version new.config new.value ≡ value_act s v
+pub act_is : (s : Settings) (v : View) (new : NewState) → IsNewState s.me (state_by (master_now s v) v.tasks) new → Value new.request.state.version new.config new.value ≡ value_act s v
 act_is s v new is =
     ap (λ (r : PublishRequest). Value r.state.version new.config new.value) is.request
     ∙ ap (λ (c : List Id). Value (v.node.accepted.version + 1) c new.value) is.config
@@ -61,17 +61,17 @@ module _ {K : Type 0} (k : Ghosts K) where
   Make old new sent sent_now is = Makes k old new sent sent_now is
 
   -- the request of a new state is the node's own
-  pub request_is : (c : Coordinator K) (t : Tasks) (new : NewState) → IsReady c → IsNewState c.settings.me (state_by (as_master c.settings (view c).node) t) new
+  pub request_is : (c : Coordinator K) (t : Tasks) (new : NewState) → IsReady c → IsNewState c.settings.me (state_by (master_now c.settings (view c)) t) new
       → new.request ≡ request_of k c.core new.request.state.version new.config new.value
   request_is c t new ready is =
-      let made = state_by (as_master c.settings (view c).node) t in
+      let made = state_by (master_now c.settings (view c)) t in
       is.request
       ∙ ap (λ (me : Id). request_of k (record c.core { me = me }) made.version made.config made.value) (sym ready.me)
       ∙ ap (λ (r : PublishRequest). request_of k c.core r.state.version r.state.config r.state.value) (sym is.request)
       ∙ ap (λ (l : List Id). request_of k c.core new.request.state.version l new.request.state.value) (ap (λ (r : PublishRequest). r.state.config) is.request ∙ sym is.config)
       ∙ ap (λ (x : ClusterValue). request_of k c.core new.request.state.version new.config x) (ap (λ (r : PublishRequest). r.state.value) is.request ∙ sym is.value)
 
-  pub publishes_taken : (v : View) (old mid : Coordinator K) (o o1 o2 : Shown) (act : Act) (new : NewState) → act ≡ value_act old.settings v → IsNewState old.settings.me (state_by (as_master old.settings v.node) v.tasks) new
+  pub publishes_taken : (v : View) (old mid : Coordinator K) (o o1 o2 : Shown) (act : Act) (new : NewState) → act ≡ value_act old.settings v → IsNewState old.settings.me (state_by (master_now old.settings v) v.tasks) new
       → Make old mid o o1 (act_now old.settings (view old) act ∷ []) → takes old.settings (view old) act ≡ true
       → o2 ≡ record o1 { frames = o1.frames ++ new.frames.list }
       → Make old mid o o2 (publishes old.settings v (view old))
@@ -108,35 +108,35 @@ module _ {K : Type 0} (k : Ghosts K) where
       ∙ ap (λ (a : Act). act_now s u a ∷ (if takes s u a then send_all s members m else becomes_candidate s (after_act s u a))) act_eq)
 
   -- the answers are sent, and the state is made
-  state_made : (old : Coordinator K) (tasks : Tasks) (o o1 : Shown) (plan : Plan) → IsPlan (as_master old.settings (view old).node) old.tasks plan → tasks ≡ tasks_after (as_master old.settings (view old).node) old.tasks → o1 ≡ record o { replies = o.replies ++ plan.replies.sent }
-      → Make old (record old { tasks = tasks }) o o1 (reply_all old.settings (next_answers (as_master old.settings (view old).node) old.tasks) ++ Notes StateMade ∷ [])
+  state_made : (old : Coordinator K) (tasks : Tasks) (o o1 : Shown) (plan : Plan) → IsPlan (master_now old.settings (view old)) old.tasks plan → tasks ≡ tasks_after (master_now old.settings (view old)) old.tasks → o1 ≡ record o { replies = o.replies ++ plan.replies.sent }
+      → Make old (record old { tasks = tasks }) o o1 (reply_all old.settings (next_answers (master_now old.settings (view old)) old.tasks) ++ Notes StateMade ∷ [])
   state_made old tasks o o1 plan is left shown =
       let s = old.settings in
-      let answers = next_answers (as_master s (view old).node) old.tasks in
+      let answers = next_answers (master_now s (view old)) old.tasks in
       let shown' : record o { replies = o.replies ++ answers } ≡ o1 = ap (λ (l : List Outgoing). record o { replies = o.replies ++ l }) (sym is.replies) ∙ sym shown in
       let replies : Make old old o o1 (reply_all s answers) =
       subst (λ (x : Shown). Make old old o x (reply_all s answers)) shown' (makes_replies k old o answers) in
       makes_then k old old (record old { tasks = tasks }) o o1 o1 (reply_all s answers) (Notes StateMade ∷ []) replies
       (makes_note k old (record old { tasks = tasks }) o1 StateMade refl refl refl (ap (λ (t : Tasks). record (view old) { tasks = t }) left))
 
-  pub makes_same : (old : Coordinator K) (tasks : Tasks) (o o1 : Shown) (plan : Plan) → IsPlan (as_master old.settings (view old).node) old.tasks plan → tasks ≡ tasks_after (as_master old.settings (view old).node) old.tasks → o1 ≡ record o { replies = o.replies ++ plan.replies.sent } → plan.new ≡ None
+  pub makes_same : (old : Coordinator K) (tasks : Tasks) (o o1 : Shown) (plan : Plan) → IsPlan (master_now old.settings (view old)) old.tasks plan → tasks ≡ tasks_after (master_now old.settings (view old)) old.tasks → o1 ≡ record o { replies = o.replies ++ plan.replies.sent } → plan.new ≡ None
       → Make old (record old { tasks = tasks }) o o1 (makes_state old.settings (view old))
   makes_same old tasks o o1 plan is left shown none =
       let s = old.settings in
       let v = view old in
-      let nothing : is_nothing_new (as_master s v.node) v.tasks ≡ true = subst (λ (n : Option NewState). IsNewOr (as_master s v.node) v.tasks n) none is.new in
+      let nothing : is_nothing_new (master_now s v) v.tasks ≡ true = subst (λ (n : Option NewState). IsNewOr (master_now s v) v.tasks n) none is.new in
       makes_as k old (record old { tasks = tasks }) o o1 _ _ (state_made old tasks o o1 plan is left shown)
-      (ap (λ (b : Bool). reply_all s (next_answers (as_master s v.node) v.tasks) ++ Notes StateMade ∷ (if b then [] else publishes s v (moved s v (Notes StateMade)))) (sym nothing))
+      (ap (λ (b : Bool). reply_all s (next_answers (master_now s v) v.tasks) ++ Notes StateMade ∷ (if b then [] else publishes s v (moved s v (Notes StateMade)))) (sym nothing))
 
-  pub makes_new : (old new : Coordinator K) (tasks : Tasks) (o o1 o2 : Shown) (plan : Plan) (state : NewState) → IsPlan (as_master old.settings (view old).node) old.tasks plan → tasks ≡ tasks_after (as_master old.settings (view old).node) old.tasks → o1 ≡ record o { replies = o.replies ++ plan.replies.sent } → plan.new ≡ Some state
+  pub makes_new : (old new : Coordinator K) (tasks : Tasks) (o o1 o2 : Shown) (plan : Plan) (state : NewState) → IsPlan (master_now old.settings (view old)) old.tasks plan → tasks ≡ tasks_after (master_now old.settings (view old)) old.tasks → o1 ≡ record o { replies = o.replies ++ plan.replies.sent } → plan.new ≡ Some state
       → Make (record old { tasks = tasks }) new o1 o2 (publishes old.settings (view old) (view (record old { tasks = tasks })))
       → Make old new o o2 (makes_state old.settings (view old))
   makes_new old new tasks o o1 o2 plan state is left shown some publishing =
       let s = old.settings in
       let v = view old in
       let mid = record old { tasks = tasks } in
-      let parts : IsNewOr (as_master s v.node) v.tasks (Some state) = subst (λ (n : Option NewState). IsNewOr (as_master s v.node) v.tasks n) some is.new in
-      let answers = reply_all s (next_answers (as_master s v.node) v.tasks) in
+      let parts : IsNewOr (master_now s v) v.tasks (Some state) = subst (λ (n : Option NewState). IsNewOr (master_now s v) v.tasks n) some is.new in
+      let answers = reply_all s (next_answers (master_now s v) v.tasks) in
       let all = makes_then k old mid new o o1 o2 (answers ++ Notes StateMade ∷ []) (publishes s v (view mid)) (state_made old tasks o o1 plan is left shown) publishing in
       makes_as k old new o o2 _ _ all
       (append_assoc answers (Notes StateMade ∷ []) (publishes s v (view mid))

@@ -16,7 +16,7 @@ use Rattle.policy_model.specs.Moves.{moved_all}
 use Rattle.policy_model.specs.Doing.{then_rule, becomes_candidate, is_second}
 use Rattle.policy_model.specs.NextState.{is_in_flight, is_hopeless}
 use Rattle.policy_model.specs.Elections.{stands_for_election}
-use Rattle.policy_model.specs.Disconnects.{drops_follower, keeps_quorum, leads_anew, goes_on_with_rest, loses_follower, loses_leader, loses_peer}
+use Rattle.policy_model.specs.Disconnects.{drops_follower, keeps_quorum, stands_anew, goes_on_with_rest, loses_follower, loses_leader, loses_peer}
 use Rattle.coordinator.specs.Ahead.{HasPlan}
 use Rattle.coordinator.specs.Plans.{IsPlanned}
 use Rattle.coordinator.specs.Showing.{Shown}
@@ -93,7 +93,7 @@ module _ {K : Type 0} (k : Ghosts K) where
   -- a leader becomes a candidate, and stands for election
   pub led_anew : (old mid new : Coordinator K) (o o1 o2 : Shown) (term : ℕ) → Make old mid o o1 (becomes_candidate old.settings (view old))
       → term ≡ (view mid).node.term + 1 → Make mid new o1 o2 (stands_for_election mid.settings (view mid) term)
-      → Make old new o o2 (leads_anew old.settings (view old))
+      → Make old new o o2 (stands_anew old.settings (view old))
   led_anew old mid new o o1 o2 term first term_is second =
       ends_rule k old mid new o o1 o2 (becomes_candidate old.settings (view old)) (λ s u. stands_for_election s u (u.node.term + 1)) true first
       (makes_as k mid new o1 o2 _ _ second (ap (λ (n : ℕ). stands_for_election mid.settings (view mid) n) term_is))

@@ -18,6 +18,7 @@ module _ {K : Type 0} (k : Ghosts K) where
     mode = c.mode;
     leader_term = c.leader_term;
     moment = c.moment;
+    led_from = c.led_from;
     finder = c.finder;
     deadline = c.deadline;
     lost_leader = c.lost_leader;

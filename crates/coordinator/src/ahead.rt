@@ -3,18 +3,23 @@ ghost use Rattle.std.specs.Prelude.{◌≡◌, ◌&&◌, not, IfOk, if◌then◌
 ghost use Rattle.policy_model.specs.Doing.{is_candidate};
 ghost use Rattle.master_tasks.specs.Queue.{no_tasks};
 ghost use Rattle.world_model.specs.Replies.{elects};
-ghost use Rattle.policy_model.specs.Parts.{all_to_be_added};
+ghost use Rattle.policy_model.specs.Parts.{all_to_be_added, policy_at as policy_at_of};
 ghost use Rattle.coordinator.specs.Ahead.{ahead_of, HasPlan, IsPlannedAhead};
 ghost use Rattle.master_tasks.specs.NextState.{leader_of};
 ghost use Rattle.coordinator.specs.Views.{view_in};
 
 use crate::coordinator::Coordinator;
 use crate::plan::{Plan, plan_state};
-use master_tasks::MasterTasks;
+use election_clock::has_passed;
+use master_tasks::{MasterTasks, Policy};
 use policy_model::Mode;
 use state_journal::Keeper;
 use std::alloc::{AllocError, Global};
 use voting_config::{JoinVotes, NodeId, VotingConfig};
+
+/// For how long a leader of the second profile takes no voter out for being away, in ms: what it takes for all that are up to be heard of
+/// after an election.
+pub const SHRINK_DELAY_MS: u64 = 10_000;
 
 /// What a node will be once its term has risen, as far as the next state is made of it.
 #[derive(Drop)]
@@ -76,10 +81,23 @@ impl<K: Keeper> Coordinator<K> {
         !won && votes.is_quorum_with_state(self.core.committed(), &self.core.accepted().config)
     }
 
-    // What making the next state of these tasks comes to, in a term, with this committed configuration and with these votes.
+    // By which policy it leads now, where it became a leader at that moment.
+    fn policy_at(&self, led_from: u64) -> Policy
+        ensures { result ≡ policy_at_of self.now.settings led_from self.now.moment }
+    {
+        let Policy { shrink, second } = self.settings.policy;
+        Policy {
+            shrink: shrink && (!second || has_passed(led_from, SHRINK_DELAY_MS, self.moment)),
+            second,
+        }
+    }
+
+    // What making the next state of these tasks comes to, of a leader since a moment, in a term, with this committed configuration and
+    // with these votes.
     pub(crate) fn plan_over(
         &self,
         alloc: Global,
+        led_from: u64,
         term: u64,
         committed: &VotingConfig,
         tasks: &MasterTasks,
@@ -87,12 +105,12 @@ impl<K: Keeper> Coordinator<K> {
     ) -> Result<Option<Plan>, AllocError>
         ensures { IfOk result
             (λ plan. HasPlan (leader_of self.now.settings.me term (K.record_of self.now.core.keeper).accepted
-            committed.now votes.now self.now.settings.policy) tasks.now plan) }
+            committed.now votes.now (policy_at_of self.now.settings led_from self.now.moment)) tasks.now plan) }
     {
         let plan = plan_state(
             alloc,
             self.settings.me,
-            self.settings.policy,
+            self.policy_at(led_from),
             tasks,
             term,
             &self.core.kept().accepted,
@@ -106,15 +124,16 @@ impl<K: Keeper> Coordinator<K> {
     pub(crate) fn plan_with(
         &self,
         alloc: Global,
+        led_from: u64,
         term: u64,
         tasks: &MasterTasks,
         votes: &JoinVotes,
     ) -> Result<Option<Plan>, AllocError>
         ensures { IfOk result
             (λ plan. HasPlan (leader_of self.now.settings.me term (K.record_of self.now.core.keeper).accepted
-            (K.record_of self.now.core.keeper).committed votes.now self.now.settings.policy) tasks.now plan) }
+            (K.record_of self.now.core.keeper).committed votes.now (policy_at_of self.now.settings led_from self.now.moment)) tasks.now plan) }
     {
-        self.plan_over(alloc, term, self.core.committed(), tasks, votes)
+        self.plan_over(alloc, led_from, term, self.core.committed(), tasks, votes)
     }
 
     // The plan of a node that will be this, once it has counted the join of p, which the votes and tasks then have.
@@ -134,11 +153,11 @@ impl<K: Keeper> Coordinator<K> {
             let sources = ahead.votes.sources();
             ahead.tasks.add_member(self.settings.me);
             add_members(&mut ahead.tasks, sources.as_slice());
-            return self.plan_with(alloc, ahead.term, &ahead.tasks, &ahead.votes);
+            return self.plan_with(alloc, self.moment, ahead.term, &ahead.tasks, &ahead.votes);
         }
         if ahead.leads {
             ahead.tasks.add_member(p);
-            return self.plan_with(alloc, ahead.term, &ahead.tasks, &ahead.votes);
+            return self.plan_with(alloc, self.led_from, ahead.term, &ahead.tasks, &ahead.votes);
         }
         Ok(None)
     }

@@ -1,10 +1,10 @@
 //! Commits, by which a publication is finished.
 ghost use Rattle.std.specs.Prelude.{◌≡◌, ◌≤◌, ◌+◌, [], ◌∷◌, true, length, is_ok, IfOk};
-ghost use Rattle.cluster_state.specs.States.{id_of};
-ghost use Rattle.master_tasks.specs.Answering.{exclusion_done, without_answered};
-ghost use Rattle.policy_model.specs.Publications.{acks_exclusions, on_commit};
+ghost use Rattle.master_tasks.specs.NextState.{leader_of};
+ghost use Rattle.policy_model.specs.Parts.{policy_at};
+ghost use Rattle.policy_model.specs.Publications.{answers_applied, on_commit};
 ghost use Rattle.policy_model.specs.Moves.{moved_all};
-ghost use Rattle.coordinator.specs.Ahead.{IsPlannedCommit, finishes};
+ghost use Rattle.coordinator.specs.Ahead.{HasPlan, IsAnswered, IsPlannedCommit, finishes};
 ghost use Rattle.coordinator.specs.Does.{Does, DoesAll};
 ghost use Rattle.coordinator.specs.Plans.{IsPlanned, replies_planned};
 ghost use Rattle.coordinator.specs.Rooms.{Uses, to_set};
@@ -14,25 +14,36 @@ use crate::coordinator::{Acted, Coordinator, DiskFailed, EventError};
 use crate::output::Output;
 use crate::plan::Plan;
 use cluster_state::{ApplyCommit, StateId};
-use master_tasks::{MasterTasks, Replies};
+use master_tasks::{Applied, MasterTasks};
 use state_journal::Keeper;
 use std::alloc::{AllocError, Global};
 use voting_config::{NodeId, VotingConfig};
 
+/// What a leader does once it has taken a commit: what it has left then with the replies that it sends, where requests wait, and what going
+/// on will take.
+#[derive(Drop)]
+pub struct Finish {
+    pub applied: Option<Applied>,
+    pub plan: Option<Plan>,
+}
+
 impl<K: Keeper> Coordinator<K> {
     // What going on will take once the accepted state is committed.
-    fn plan_commit(&self, alloc: Global) -> Result<Option<Plan>, AllocError>
-        ensures { IfOk result (λ plan. IsPlannedCommit self.now.settings (view_in K.Keeper self.now) plan) }
+    fn plan_commit(&self, alloc: Global) -> Result<Finish, AllocError>
+        ensures { IfOk result (λ finish. IsPlannedCommit self.now.settings (view_in K.Keeper self.now) finish) }
     {
         if self.is_leader() {
             return self.plan_finish(alloc);
         }
-        Ok(None)
+        Ok(Finish {
+            applied: None,
+            plan: None,
+        })
     }
 
     // The same, of a leader. The accepted configuration is committed then, which most often is the committed one already.
-    fn plan_finish(&self, alloc: Global) -> Result<Option<Plan>, AllocError>
-        ensures { IfOk result (λ plan. IsPlannedCommit self.now.settings (view_in K.Keeper self.now) plan) }
+    fn plan_finish(&self, alloc: Global) -> Result<Finish, AllocError>
+        ensures { IfOk result (λ finish. IsPlannedCommit self.now.settings (view_in K.Keeper self.now) finish) }
     {
         let committed = self.core.committed();
         let accepted = self.core.accepted();
@@ -43,60 +54,74 @@ impl<K: Keeper> Coordinator<K> {
     }
 
     // The same, with the configuration that is committed then. Most often nothing waits, and nothing is copied then.
-    fn plan_committed(
-        &self,
-        alloc: Global,
-        committed: &VotingConfig,
-    ) -> Result<Option<Plan>, AllocError>
+    fn plan_committed(&self, alloc: Global, committed: &VotingConfig) -> Result<Finish, AllocError>
         requires { committed.now ≡ (K.record_of self.now.core.keeper).accepted.config }
-        ensures { IfOk result (λ plan. IsPlannedCommit self.now.settings (view_in K.Keeper self.now) plan) }
+        ensures { IfOk result (λ finish. IsPlannedCommit self.now.settings (view_in K.Keeper self.now) finish) }
     {
-        let (term, votes) = (self.core.term(), self.core.votes());
         if self.tasks.open_count() == 0 {
-            return self.plan_over(alloc, term, committed, &self.tasks, votes);
+            return Ok(Finish {
+                applied: None,
+                plan: self.plan_under(alloc, committed, &self.tasks)?,
+            });
         }
-        let tasks = self.tasks_acked(alloc, committed)?;
-        self.plan_over(alloc, term, committed, &tasks, votes)
+        let applied = self
+            .tasks
+            .once_applied(committed, &self.core.kept().accepted)?;
+        let plan = self.plan_under(alloc, committed, &applied.tasks)?;
+        Ok(Finish {
+            applied: Some(applied),
+            plan,
+        })
     }
 
-    // The tasks without the exclusions that are done with this configuration.
-    fn tasks_acked(
+    // What going on will take with these tasks, where this configuration is committed.
+    fn plan_under(
         &self,
         alloc: Global,
         committed: &VotingConfig,
-    ) -> Result<MasterTasks, AllocError>
+        tasks: &MasterTasks,
+    ) -> Result<Option<Plan>, AllocError>
         ensures { IfOk result
-            (λ t. t ≡ without_answered (exclusion_done committed.now (id_of (K.record_of self.now.core.keeper).accepted)) self.now.tasks) }
+            (λ plan. HasPlan (leader_of self.now.settings.me (K.record_of self.now.core.keeper).term
+            (K.record_of self.now.core.keeper).accepted committed.now self.now.core.join_votes
+            (policy_at self.now.settings self.now.led_from self.now.moment)) tasks.now plan) }
     {
-        let mut tasks = self.tasks.copy()?;
-        let mut answers = Replies::with_room(alloc, tasks.open_count())?;
-        tasks.ack_exclusions(committed, self.core.accepted().id(), &mut answers);
-        Ok(tasks)
+        self.plan_over(
+            alloc,
+            self.led_from,
+            self.core.term(),
+            committed,
+            tasks,
+            self.core.votes(),
+        )
     }
 
-    // Exclusions that are done are acknowledged.
-    fn ack_exclusions(&mut self, out: &mut Output)
-        requires { length self.old.tasks.waiting ≤ out.old.replies.room }
-        ensures does { Does K.Keeper self.old self.new out.old out.new acks_exclusions true }
+    // Who waited for the leader to take the commit is answered.
+    fn answer_applied(&mut self, out: &mut Output, applied: &mut Option<Applied>)
+        requires applied { IsAnswered K.Keeper self.old applied.old }
+        requires replies { length self.old.tasks.waiting ≤ out.old.replies.room }
+        ensures does { Does K.Keeper self.old self.new out.old out.new answers_applied true }
         ensures uses { Uses out.old out.new 0 0 (length self.old.tasks.waiting) }
     {
-        let id = self.core.accepted().id();
-        self.tasks
-            .ack_exclusions(self.core.committed(), id, &mut out.replies);
+        if let Some(Applied { tasks, replies }) = applied.take() {
+            self.tasks = tasks;
+            out.replies.append(replies);
+        }
     }
 
-    // A leader that heard of the commit goes on as planned.
-    fn finish_publication(&mut self, out: &mut Output, plan: &mut Option<Plan>)
+    // A leader that has taken the commit goes on as planned.
+    fn finish_publication(&mut self, out: &mut Output, finish: &mut Finish)
         requires ready { IsReady self.old }
+        requires applied { IsAnswered K.Keeper self.old finish.old.applied }
         requires plan { IsPlanned self.old.settings
-            (moved_all self.old.settings (view_in K.Keeper self.old) (acks_exclusions self.old.settings (view_in K.Keeper self.old))) plan.old }
+            (moved_all self.old.settings (view_in K.Keeper self.old) (answers_applied self.old.settings (view_in K.Keeper self.old))) finish.old.plan }
         requires deeds { 2 ≤ out.old.deeds.room }
         requires frames { to_set ≤ out.old.frames.room }
-        requires replies { length self.old.tasks.waiting + replies_planned plan.old ≤ out.old.replies.room }
+        requires replies { length self.old.tasks.waiting + replies_planned finish.old.plan ≤ out.old.replies.room }
         ensures does { Does K.Keeper self.old self.new out.old out.new finishes true }
     {
-        self.ack_exclusions(out);
-        self.go_on(out, plan);
+        self.answer_applied(out, &mut finish.applied);
+        self.go_on(out, &mut finish.plan);
     }
 
     // Takes the commit, and goes on as planned.
@@ -105,13 +130,13 @@ impl<K: Keeper> Coordinator<K> {
         out: &mut Output,
         p: NodeId,
         id: StateId,
-        plan: &mut Option<Plan>,
+        finish: &mut Finish,
     ) -> Acted
         requires ready { IsReady self.old }
-        requires plan { IsPlannedCommit self.old.settings (view_in K.Keeper self.old) plan.old }
+        requires plan { IsPlannedCommit self.old.settings (view_in K.Keeper self.old) finish.old }
         requires deeds { 3 ≤ out.old.deeds.room }
         requires frames { to_set ≤ out.old.frames.room }
-        requires replies { length self.old.tasks.waiting + replies_planned plan.old ≤ out.old.replies.room }
+        requires replies { length self.old.tasks.waiting + replies_planned finish.old.plan ≤ out.old.replies.room }
         ensures does { Does K.Keeper self.old self.new out.old out.new (λ s v. on_commit s v p id) (is_ok result) }
     {
         let commit = ApplyCommit {
@@ -126,7 +151,7 @@ impl<K: Keeper> Coordinator<K> {
                     return Ok(());
                 }
                 if self.is_leader() {
-                    self.finish_publication(out, plan);
+                    self.finish_publication(out, finish);
                     return Ok(());
                 }
                 Ok(())
@@ -146,13 +171,13 @@ impl<K: Keeper> Coordinator<K> {
         requires frames { to_set ≤ out.old.frames.room }
         ensures does { DoesAll K.Keeper self.old self.new out.old out.new (λ s v. on_commit s v p id) result }
     {
-        let Ok(mut plan) = self.plan_commit(out.alloc) else {
+        let Ok(mut finish) = self.plan_commit(out.alloc) else {
             return Err(EventError::Memory);
         };
-        let Ok(()) = out.make_room(self.tasks.open_count(), &plan) else {
+        let Ok(()) = out.make_room(self.tasks.open_count(), &finish.plan) else {
             return Err(EventError::Memory);
         };
-        match self.take_commit(out, p, id, &mut plan) {
+        match self.take_commit(out, p, id, &mut finish) {
             Ok(()) => Ok(()),
             Err(_) => Err(EventError::Struck),
         }

@@ -31,6 +31,7 @@ impl<K: Keeper> Coordinator<K> {
         let term = self.core.term();
         self.mode = Mode::Leader;
         self.leader_term = term;
+        self.led_from = self.moment;
         self.leader_check = None;
         self.tasks.add_member(self.settings.me);
         let votes = self.core.votes().sources();

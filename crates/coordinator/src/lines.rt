@@ -55,9 +55,15 @@ impl<K: Keeper> Coordinator<K> {
         ensures { IfOk result
             (λ plan. HasPlan (master_of self.now.settings.me (K.record_of self.now.core.keeper).term
             (K.record_of self.now.core.keeper).accepted (K.record_of self.now.core.keeper).committed self.now.core.join_votes
-            self.now.settings.policy) tasks.now plan) }
+            (policy_at self.now.settings self.now.led_from self.now.moment)) tasks.now plan) }
     {
-        self.plan_with(alloc, self.core.term(), tasks, self.core.votes())
+        self.plan_with(
+            alloc,
+            self.led_from,
+            self.core.term(),
+            tasks,
+            self.core.votes(),
+        )
     }
 
     // A leader with no publication in flight queues a request, and goes on. What that takes is planned over the queue itself, so that no

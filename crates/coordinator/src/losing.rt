@@ -1,6 +1,6 @@
 //! What comes of a connection that has ended.
 ghost use Rattle.std.specs.Prelude.{◌≡◌, ◌≤◌, [], ◌∷◌, true, length, IfOk};
-ghost use Rattle.policy_model.specs.Disconnects.{drops_follower, goes_on_with_rest, leads_anew, keeps_quorum as keeps_quorum_of, loses, loses_follower, loses_leader, loses_peer};
+ghost use Rattle.policy_model.specs.Disconnects.{drops_follower, goes_on_with_rest, stands_anew, keeps_quorum as keeps_quorum_of, loses, loses_follower, loses_leader, loses_peer};
 ghost use Rattle.policy_model.specs.Events.{LeaderLost, Notes, PeerLost};
 ghost use Rattle.policy_model.specs.Moves.{moved_all};
 ghost use Rattle.coordinator.specs.Does.{Does, DoesAll};
@@ -82,7 +82,7 @@ impl<K: Keeper> Coordinator<K> {
         requires deeds { 2 ≤ out.old.deeds.room }
         requires frames { to_set ≤ out.old.frames.room }
         requires waiting { length self.old.tasks.waiting ≤ out.old.replies.room }
-        ensures does { Does K.Keeper self.old self.new out.old out.new leads_anew true }
+        ensures does { Does K.Keeper self.old self.new out.old out.new stands_anew true }
     {
         self.become_candidate(out);
         let term = self.core.term() + 1;

@@ -80,7 +80,7 @@ impl<K: Keeper> Coordinator<K> {
         requires frames { to_set ≤ out.old.frames.room }
         requires replies { length self.old.tasks.waiting ≤ out.old.replies.room }
         ensures does { (v : View) → v.node ≡ (view_in K.Keeper self.old).node
-            → IsNewState self.old.settings.me (state_by (as_master self.old.settings v.node) v.tasks) new
+            → IsNewState self.old.settings.me (state_by (master_now self.old.settings v) v.tasks) new
             → Does K.Keeper self.old self.new out.old out.new (λ s u. publishes s v u) true }
     {
         let NewState {
@@ -102,7 +102,7 @@ impl<K: Keeper> Coordinator<K> {
     // Makes the next state as planned.
     fn make_state(&mut self, out: &mut Output, plan: Plan)
         requires ready { IsReady self.old }
-        requires plan { IsPlan (as_master self.old.settings (view_in K.Keeper self.old).node) self.old.tasks plan }
+        requires plan { IsPlan (master_now self.old.settings (view_in K.Keeper self.old)) self.old.tasks plan }
         requires deeds { 2 ≤ out.old.deeds.room }
         requires frames { to_set ≤ out.old.frames.room }
         requires replies { length plan.replies.sent + length plan.waiting.items ≤ out.old.replies.room }

@@ -52,6 +52,7 @@ impl<K: Keeper> Coordinator<K> {
             mode: Mode::Candidate,
             leader_term: 0,
             moment: 0,
+            led_from: 0,
             finder: PeerFinder::new(me),
             deadline: None,
             lost_leader: false,

@@ -11,7 +11,7 @@ use Rattle.master_tasks.specs.declared.next.Next.TheVariants.{Same, New}
 use Rattle.master_tasks.specs.Replying.{Replies, room_for, with_sent}
 use Rattle.master_tasks.specs.Queue.{Tasks}
 use Rattle.master_tasks.specs.Processing.{Processed, processed_all}
-use Rattle.master_tasks.specs.NextState.{Leader, value_before, processed_by, next_value, config_for, next_config, is_accepted, sends_anew, is_nothing_new, acks, unacked, next_answers, waiting_after, next_replies, next_of}
+use Rattle.master_tasks.specs.NextState.{Leader, value_before, processed_by, next_value, config_for, next_config, is_accepted, makes_anew, is_nothing_new, acks, unacked, next_answers, waiting_after, next_replies, next_of}
 
 -- what was made
 pub record Made (l : Leader) (t : Tasks) (value : ClusterValue) (waiting : List Waiting) (replies : Replies) (config : List Id) : Type 0 where
@@ -40,7 +40,7 @@ made l t before value waiting replies config is value_is waiting_is replies_are 
 
 -- whether no state comes of what was made
 abbrev pub is_old : Leader → Tasks → List Waiting → List Id → ClusterValue → Bool
-is_old l t waiting config value = not (sends_anew l.policy t.additions waiting) && is_accepted l.term l.accepted config value
+is_old l t waiting config value = not (makes_anew l.policy t.additions waiting) && is_accepted l.term l.accepted config value
 
 nothing_new_is : (l : Leader) (t : Tasks) (value : ClusterValue) (waiting : List Waiting) (replies : Replies) (config : List Id) (b : Bool) → Made l t value waiting replies config → b ≡ is_old l t waiting config value → is_nothing_new l t ≡ b
 unfolding is_nothing_new

@@ -1,12 +1,9 @@
 -- Part of the statement: the next state that a leader makes of its tasks.
-use Rattle.std.specs.Prelude.{◌≡◌, ℕ, Bool, true, false, not, ◌&&◌, ◌||◌, Some, List, [], ◌++◌, length, nat_eq, nat_lt, if◌then◌else◌}
-use Rattle.std.specs.List.{list_any}
+use Rattle.std.specs.Prelude.{◌≡◌, ℕ, Bool, true, not, ◌&&◌, ◌||◌, Some, List, [], ◌++◌, length, nat_eq, nat_lt, if◌then◌else◌}
 use Rattle.voting_config.specs.Ids.{Id, same_config, among}
 use Rattle.reconfigurator.specs.Targets.{target_of}
 use Rattle.cluster_state.specs.declared.state.ClusterState.{ClusterState}
 use Rattle.cluster_state.specs.declared.state.ClusterValue.{ClusterValue}
-use Rattle.cluster_state.specs.declared.request.Ask.{Ask}
-use Rattle.cluster_state.specs.declared.request.Ask.TheVariants as ask
 use Rattle.cluster_state.specs.Same.{same_value}
 use Rattle.cluster_state.specs.States.{id_of}
 use Rattle.master_tasks.specs.declared.policy.Policy.{Policy}
@@ -40,20 +37,20 @@ value_before me t value = record value { master = Some me; members = members_aft
 
 -- the requests processed on that value
 unfoldable pub processed_by : Leader → Tasks → Processed
-processed_by l t = processed_all l.accepted (value_before l.me t l.accepted.value) t.waiting
+processed_by l t = processed_all l.policy.second l.accepted (value_before l.me t l.accepted.value) t.waiting
 
 unfoldable pub next_value : Leader → Tasks → ClusterValue
 next_value l t = (processed_by l t).value
 
 -- whether another configuration may be wanted: once the accepted one is committed, and in the second profile only in a term of which a
 -- state is accepted
-abbrev pub may_move : ℕ → ClusterState → List Id → Policy → Bool
-may_move term accepted committed policy = same_config committed accepted.config && (not policy.second || nat_eq accepted.term term)
+abbrev pub may_reconfigure : ℕ → ClusterState → List Id → Policy → Bool
+may_reconfigure term accepted committed policy = same_config committed accepted.config && (not policy.second || nat_eq accepted.term term)
 
 -- the configuration that is wanted for a value; live are the members that voted for the node
 unfoldable pub config_for : Id → ℕ → ClusterState → List Id → List Id → Policy → ClusterValue → List Id
 config_for me term accepted committed votes policy value =
-    if may_move term accepted committed policy
+    if may_reconfigure term accepted committed policy
     then target_of (among value.members votes) value.exclusions me accepted.config policy.shrink
     else accepted.config
 
@@ -64,24 +61,14 @@ next_config l t = config_for l.me l.term l.accepted l.committed l.votes l.policy
 unfoldable pub is_accepted : ℕ → ClusterState → List Id → ClusterValue → Bool
 is_accepted term accepted config value = nat_eq accepted.term term && same_value value accepted.value && same_config config accepted.config
 
--- whether a put, a remove or a clear waits
-abbrev pub is_write : Ask → Bool
-is_write (ask.Put key value) = true
-is_write (ask.Remove key) = true
-is_write (ask.Exclude ids) = false
-is_write (ask.Clear wait) = true
-is_write ask.State = false
-
-abbrev pub has_writes : List Waiting → Bool
-has_writes waiting = list_any (λ w. is_write w.request.ask) waiting
-
--- in the second profile a state is sent where anybody joins, be it a member already, and where a write waits, be it of what is there
-abbrev pub sends_anew : Policy → List Id → List Waiting → Bool
-sends_anew policy additions waiting = (nat_lt 0 (length additions) || has_writes waiting) && policy.second
+-- in the second profile a state is made where anybody joins, be it a member already, and where a request was processed, be it of what is
+-- there or to be shown the state
+abbrev pub makes_anew : Policy → List Id → Bool → Bool
+makes_anew policy additions anew = (nat_lt 0 (length additions) || anew) && policy.second
 
 unfoldable pub is_nothing_new : Leader → Tasks → Bool
 is_nothing_new l t =
-    not (sends_anew l.policy t.additions (processed_by l t).waiting) && is_accepted l.term l.accepted (next_config l t) (next_value l t)
+    not (makes_anew l.policy t.additions (processed_by l t).anew) && is_accepted l.term l.accepted (next_config l t) (next_value l t)
 
 -- what that says of the accepted state
 pub record StaysAccepted (l : Leader) (t : Tasks) : Type 0 where

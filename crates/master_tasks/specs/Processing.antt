@@ -1,5 +1,5 @@
 -- Part of the statement: what a request does to the value.
-use Rattle.std.specs.Prelude.{◌+◌, true, not, ◌&&◌, Option, None, Some, Result, Ok, Err, List, [], ◌∷◌, ◌++◌, length, map, fold, nat_le, if◌then◌else◌}
+use Rattle.std.specs.Prelude.{◌+◌, Bool, true, false, not, ◌&&◌, ◌||◌, Option, None, Some, Result, Ok, Err, List, [], ◌∷◌, ◌++◌, length, map, fold, nat_le, if◌then◌else◌}
 use Rattle.voting_config.specs.Ids.{Id, has}
 use Rattle.cluster_state.specs.declared.state.ClusterState.{ClusterState}
 use Rattle.cluster_state.specs.declared.state.ClusterValue.{ClusterValue}
@@ -39,17 +39,18 @@ abbrev pub clearing : ClusterValue → Result (Unit {0}) StillMember → Process
 clearing value (Ok u) = Makes (record value { exclusions = [] })
 clearing value (Err still) = AnsweredAtOnce (answer.StillMember still.0)
 
--- a request on a value, beside the accepted state
-abbrev pub processing : ClusterState → ClusterValue → Ask → Processing
-processing accepted value (ask.Put key text) = putting value (key, text)
-processing accepted value (ask.Remove key) = Makes (record value { settings = without_key key value.settings })
-processing accepted value (ask.Exclude ids) = excluding value (added_of value.exclusions ids)
-processing accepted value (ask.Clear wait) = clearing value (cleared_of value.exclusions value.members wait)
-processing accepted value ask.State = AnsweredAtOnce (answer.State accepted)
+-- A request on a value, beside the accepted state and by the profile. To be shown the state is answered at once by the first; by the second
+-- it waits for a state of its own.
+abbrev pub processing : Bool → ClusterState → ClusterValue → Ask → Processing
+processing second accepted value (ask.Put key text) = putting value (key, text)
+processing second accepted value (ask.Remove key) = Makes (record value { settings = without_key key value.settings })
+processing second accepted value (ask.Exclude ids) = excluding value (added_of value.exclusions ids)
+processing second accepted value (ask.Clear wait) = clearing value (cleared_of value.exclusions value.members wait)
+processing second accepted value ask.State = if second then Makes value else AnsweredAtOnce (answer.State accepted)
 
 -- a request is processed once
-abbrev pub processing_once : ClusterState → ClusterValue → Waiting → Processing
-processing_once accepted value w = if w.processed then Makes value else processing accepted value w.request.ask
+abbrev pub processing_once : Bool → ClusterState → ClusterValue → Waiting → Processing
+processing_once second accepted value w = if w.processed then Makes value else processing second accepted value w.request.ask
 
 abbrev pub value_after : ClusterValue → Processing → ClusterValue
 value_after value (AnsweredAtOnce answer) = value
@@ -59,22 +60,27 @@ abbrev pub answer_after : Processing → Option Answer
 answer_after (AnsweredAtOnce answer) = Some answer
 answer_after (Makes made) = None
 
--- the value after some requests, those of them that wait, and the answers to the others
+-- the value after some requests, those of them that wait, whether one of these was processed now, and the answers to the others
 pub record Processed : Type 0 where
   pub value : ClusterValue
   pub waiting : List Waiting
+  pub anew : Bool
   pub answers : List Outgoing
 
 abbrev pub before_all : ClusterValue → Processed
-before_all value = record { value = value; waiting = []; answers = [] }
+before_all value = record { value = value; waiting = []; anew = false; answers = [] }
 
 abbrev pub and_then : Processed → Waiting → Processing → Processed
 and_then p w (AnsweredAtOnce answer) = record p { answers = p.answers ++ answer_to w answer ∷ [] }
-and_then p w (Makes made) = record p { value = made; waiting = p.waiting ++ record w { processed = true } ∷ [] }
+and_then p w (Makes made) = record p {
+  value = made;
+  waiting = p.waiting ++ record w { processed = true } ∷ [];
+  anew = p.anew || not w.processed;
+}
 
-abbrev pub with_next : ClusterState → Processed → Waiting → Processed
-with_next accepted p w = and_then p w (processing_once accepted p.value w)
+abbrev pub with_next : Bool → ClusterState → Processed → Waiting → Processed
+with_next second accepted p w = and_then p w (processing_once second accepted p.value w)
 
 -- the requests from the first on, each on the value so far
-abbrev pub processed_all : ClusterState → ClusterValue → List Waiting → Processed
-processed_all accepted value waiting = fold (with_next accepted) (before_all value) waiting
+abbrev pub processed_all : Bool → ClusterState → ClusterValue → List Waiting → Processed
+processed_all second accepted value waiting = fold (with_next second accepted) (before_all value) waiting

@@ -1,12 +1,19 @@
 //! Which requests that wait are answered, and why.
-ghost use Rattle.std.specs.Prelude.{◌≡◌, is_some};
-ghost use Rattle.master_tasks.specs.Answering.{excluded_by, exclusion_done as exclusion_done_of, timed_out as timed_out_of};
+ghost use Rattle.std.specs.Prelude.{◌≡◌, IfOk};
+ghost use Rattle.master_tasks.specs.Answering.{
+  answer_applied as answer_applied_of,
+  applied_in as applied_in_of,
+  nothing_new as nothing_new_of,
+  timed_out as timed_out_of,
+  waits_applied as waits_applied_of,
+};
 ghost use Rattle.master_tasks.specs.Deciding.{decided};
 ghost use Rattle.voting_config.specs.Ids.{some_among};
 
 use crate::waiting::Waiting;
-use cluster_state::{Answer, Ask, StateId};
+use cluster_state::{Answer, Ask, SharedState, StateId};
 use election_clock::has_passed;
+use std::alloc::AllocError;
 use voting_config::{IdList, VotingConfig};
 
 /// How long an exclusion waits, in ms: 30 s, the default of `timeout` of the voting configuration exclusions API
@@ -20,8 +27,6 @@ pub enum Decision<'a> {
     Failed(u64),
     /// The state of this id is committed.
     Committed(StateId),
-    /// This configuration is committed, by the state of this id.
-    Applied(&'a VotingConfig, StateId),
     /// It is this late, in ms, and this configuration is the committed one.
     Late(&'a VotingConfig, u64),
     /// The accepted state, of this id, has what all ask for, and this configuration is the committed one.
@@ -36,39 +41,34 @@ impl Decision<'_> {
         match self {
             Decision::Failed(term) => Some(Answer::FailedToCommit(*term)),
             Decision::Committed(id) => {
-                if w.processed && !is_exclusion(&w.request.ask) {
+                if w.processed && !waits_applied(&w.request.ask) {
                     Some(Answer::Acked(*id))
                 } else {
                     None
                 }
             }
-            Decision::Applied(committed, id) => exclusion_done(committed, *id, w),
             Decision::Late(committed, now) => timed_out(committed, *now, w),
-            Decision::NothingNew(committed, id) => {
-                if is_exclusion(&w.request.ask) {
-                    exclusion_done(committed, *id, w)
-                } else {
-                    Some(Answer::Acked(*id))
-                }
-            }
+            Decision::NothingNew(committed, id) => nothing_new(committed, *id, w),
         }
     }
 }
 
-fn is_exclusion(ask: &Ask) -> bool
-    ensures { result ≡ is_some (excluded_by ask.now) }
+// Whether a request waits until the leader has taken the commit of its state.
+fn waits_applied(ask: &Ask) -> bool
+    ensures { result ≡ waits_applied_of ask.now }
 {
     match ask {
-        Ask::Exclude(_) => true,
-        Ask::Put { .. } | Ask::Remove { .. } | Ask::Clear { .. } | Ask::State => false,
+        Ask::Exclude(_) | Ask::State => true,
+        Ask::Put { .. } | Ask::Remove { .. } | Ask::Clear { .. } => false,
     }
 }
 
-// An exclusion is done once it was processed and none of its ids votes.
-fn exclusion_done(committed: &VotingConfig, id: StateId, w: &Waiting) -> Option<Answer>
-    ensures { result ≡ exclusion_done_of committed.now id w.now }
+// Nothing is new: what asks for nothing else is acked, an exclusion once it was processed and none of its ids votes.
+fn nothing_new(committed: &VotingConfig, id: StateId, w: &Waiting) -> Option<Answer>
+    ensures { result ≡ nothing_new_of committed.now id w.now }
 {
     match &w.request.ask {
+        Ask::Put { .. } | Ask::Remove { .. } | Ask::Clear { .. } => Some(Answer::Acked(id)),
         Ask::Exclude(ids) => {
             if w.processed && !some_vote(ids, committed) {
                 Some(Answer::Acked(id))
@@ -76,8 +76,45 @@ fn exclusion_done(committed: &VotingConfig, id: StateId, w: &Waiting) -> Option<
                 None
             }
         }
-        _ => None,
+        Ask::State => None,
     }
+}
+
+// What a request is answered that waited for the leader to take the commit of this state.
+fn answer_applied(
+    committed: &VotingConfig,
+    accepted: &SharedState,
+    ask: &Ask,
+) -> Result<Option<Answer>, AllocError>
+    ensures { IfOk result (λ a. a ≡ answer_applied_of committed.now accepted.now ask.now) }
+{
+    match ask {
+        Ask::Put { .. } | Ask::Remove { .. } | Ask::Clear { .. } => Ok(None),
+        Ask::Exclude(ids) => {
+            if some_vote(ids, committed) {
+                Ok(None)
+            } else {
+                Ok(Some(Answer::Acked(accepted.id())))
+            }
+        }
+        Ask::State => Ok(Some(Answer::State(accepted.share()?))),
+    }
+}
+
+/// The answer of a request once the leader has taken the commit of this state, by which this configuration is committed, if it gets one: an
+/// exclusion that was processed, where none of its ids votes any more; and a processed request to be shown the state.
+pub fn applied_in(
+    committed: &VotingConfig,
+    accepted: &SharedState,
+    w: &Waiting,
+) -> Result<Option<Answer>, AllocError>
+    ensures { IfOk result (λ a. a ≡ applied_in_of committed.now accepted.now w.now) }
+{
+    if !w.processed {
+        return Ok(None);
+    }
+    let answer = answer_applied(committed, accepted, &w.request.ask)?;
+    Ok(answer)
 }
 
 // Whether one of the ids votes.

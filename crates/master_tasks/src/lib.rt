@@ -20,5 +20,5 @@ pub use laws::{
 pub use next::{Next, Prepared};
 pub use policy::Policy;
 pub use replies::Replies;
-pub use tasks::{MAX_OPEN, MasterTasks, OfferError};
+pub use tasks::{Applied, MAX_OPEN, MasterTasks, OfferError};
 pub use waiting::{Outgoing, Waiting};

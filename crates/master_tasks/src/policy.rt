@@ -6,7 +6,7 @@ pub struct Policy {
     /// Whether the voting configuration may shrink (`cluster.auto_shrink_voting_configuration`).
     pub shrink: bool,
     /// Whether it is the second profile of the policy. In it a configuration is aimed at only once a state of the term is accepted; a node
-    /// that joins is sent a state, even where it is a member already; and a put, a remove or a clear makes a new state, even where it
-    /// changes nothing.
+    /// that joins is sent a state, even where it is a member already; and each request that is not refused makes a new state, even where it
+    /// changes nothing, and also one to be shown the state.
     pub second: bool,
 }

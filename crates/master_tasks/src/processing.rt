@@ -1,6 +1,8 @@
 //! What each request does to the value of the next state.
 ghost use Rattle.std.specs.Prelude.{◌≡◌, IfOk, OnOk};
 ghost use Rattle.master_tasks.specs.Processing.{answer_after, clearing, excluding, processing, processing_once, putting, refused as refused_of, value_after};
+ghost use Rattle.cluster_state.specs.declared.request.Ask.TheVariants as ask;
+ghost use Rattle.cluster_state.specs.declared.state.ClusterValue.{ClusterValue as ClusterValueOf};
 ghost use Rattle.exclusions.specs.Exclusions.{added_of, cleared_of};
 
 use crate::waiting::Waiting;
@@ -9,16 +11,17 @@ use exclusions::AddError;
 use std::alloc::{AllocError, Global};
 use voting_config::IdList;
 
-/// Processes a request on a value, beside the accepted state: the answer, if it gets one at once. Where there is no
+/// Processes a request on a value, beside the accepted state and by the profile: the answer, if it gets one at once. Where there is no
 /// memory, the value may be anything.
 pub fn process(
     alloc: Global,
+    second: bool,
     accepted: &SharedState,
     value: &mut ClusterValue,
     ask: &Ask,
 ) -> Result<Option<Answer>, AllocError>
-    ensures value { OnOk result (value.new ≡ value_after value.old (processing accepted.now value.old ask.now)) }
-    ensures answer { IfOk result (λ a. a ≡ answer_after (processing accepted.now value.old ask.now)) }
+    ensures value { OnOk result (value.new ≡ value_after value.old (processing second accepted.now value.old ask.now)) }
+    ensures answer { IfOk result (λ a. a ≡ answer_after (processing second accepted.now value.old ask.now)) }
 {
     match ask {
         Ask::Put { key, value: text } => put(value, key, text),
@@ -28,25 +31,36 @@ pub fn process(
         }
         Ask::Exclude(ids) => exclude(alloc, value, ids),
         Ask::Clear { wait_for_removal } => Ok(clear(alloc, value, *wait_for_removal)),
-        Ask::State => Ok(Some(Answer::State(accepted.share()?))),
+        Ask::State => show(second, accepted),
     }
 }
 
 /// Processes a request, unless it was processed before.
 pub fn process_once(
     alloc: Global,
+    second: bool,
     accepted: &SharedState,
     value: &mut ClusterValue,
     w: &Waiting,
 ) -> Result<Option<Answer>, AllocError>
-    ensures value { OnOk result (value.new ≡ value_after value.old (processing_once accepted.now value.old w.now)) }
-    ensures answer { IfOk result (λ a. a ≡ answer_after (processing_once accepted.now value.old w.now)) }
+    ensures value { OnOk result (value.new ≡ value_after value.old (processing_once second accepted.now value.old w.now)) }
+    ensures answer { IfOk result (λ a. a ≡ answer_after (processing_once second accepted.now value.old w.now)) }
 {
     if w.processed {
         return Ok(None);
     }
-    let answer = process(alloc, accepted, value, &w.request.ask)?;
+    let answer = process(alloc, second, accepted, value, &w.request.ask)?;
     Ok(answer)
+}
+
+// The accepted state is shown by the first profile; by the second it waits for a state of its own.
+fn show(second: bool, accepted: &SharedState) -> Result<Option<Answer>, AllocError>
+    ensures answer { (value : ClusterValueOf) → IfOk result (λ a. a ≡ answer_after (processing second accepted.now value ask.State)) }
+{
+    if second {
+        return Ok(None);
+    }
+    Ok(Some(Answer::State(accepted.share()?)))
 }
 
 // A setting is put, unless its key is new and there are as many settings as there may be.

@@ -1,7 +1,7 @@
 //! `MasterTasks`: the requests that are not answered yet, the members that are to come and to go, and the next state that is made of them.
 ghost use Rattle.std.specs.Prelude.{◌≡◌, not, ◌&&◌, ◌↔◌, ◌<◌, ◌≤◌, [], length, slice_get, Some, Err, IsTrue, IfOk, IfErr, OnOk, OnErr};
 ghost use Rattle.master_tasks.specs.declared.tasks.OfferError.TheVariants as offer_error;
-ghost use Rattle.master_tasks.specs.Answering.{answers_by, committed_in, exclusion_done, failed, left_by, timed_out, without_answered};
+ghost use Rattle.master_tasks.specs.Answering.{answers_by, committed_in, applied_in, failed, left_by, timed_out, without_answered};
 ghost use Rattle.master_tasks.specs.Deciding.{decided};
 ghost use Rattle.cluster_state.specs.States.{IsFitValue};
 ghost use Rattle.reconfigurator.specs.Targets.{target_of};
@@ -12,10 +12,8 @@ ghost use Rattle.master_tasks.specs.NextState.{
   IsAtRest,
   config_for as config_for_of,
   is_accepted as is_accepted_of,
-  may_move as may_move_of,
-  sends_anew as sends_anew_of,
-  has_writes as has_writes_of,
-  is_write as is_write_of,
+  may_reconfigure as may_reconfigure_of,
+  makes_anew as makes_anew_of,
   leader_of,
   next_of,
   value_before as value_before_of,
@@ -25,14 +23,14 @@ ghost use Rattle.master_tasks.specs.NextState.{
 ghost use Rattle.master_tasks.specs.Processing.{processed_all};
 ghost use Rattle.master_tasks.specs.Replying.{room_for, with_sent};
 
-use crate::answering::Decision;
+use crate::answering::{Decision, applied_in as applied_in_by};
 use crate::members::join;
 use crate::next::{Next, Prepared};
 use crate::policy::Policy;
 use crate::processing::process_once;
 use crate::replies::Replies;
 use crate::waiting::Waiting;
-use cluster_state::{Ask, ClusterState, ClusterValue, Request, SharedState, StateId};
+use cluster_state::{ClusterState, ClusterValue, Request, SharedState, StateId};
 use reconfigurator::{stays, target};
 use std::alloc::{AllocError, Global};
 use std::marker::Model;
@@ -72,10 +70,18 @@ pub enum OfferError {
     Memory(Request),
 }
 
-// Requests that were processed: those that wait on, and the replies to the others.
+/// What a leader has left once it has taken a commit, and the replies that it sends then.
+#[derive(Drop)]
+pub struct Applied {
+    pub tasks: MasterTasks,
+    pub replies: Replies,
+}
+
+// Requests that were processed: those that wait on, whether one of these was not processed before, and the replies to the others.
 #[derive(Drop)]
 struct Processed {
     waiting: Vec<Waiting>,
+    anew: bool,
     replies: Replies,
 }
 
@@ -229,14 +235,32 @@ impl MasterTasks {
         self.answer(&Decision::Committed(id), out);
     }
 
-    /// The node has applied the state of this id, which has committed this configuration: the exclusions that were
-    /// processed and none of whose ids is in it are acknowledged.
-    pub fn ack_exclusions(&mut self, committed: &VotingConfig, id: StateId, out: &mut Replies)
-        requires { length self.old.waiting ≤ out.old.room }
-        ensures left { self.new ≡ without_answered (exclusion_done committed.now id) self.old }
-        ensures sent { out.new ≡ with_sent out.old (answers_by (exclusion_done committed.now id) self.old.waiting) }
+    /// What a leader will have left once it has taken the commit of this state, by which this configuration is committed, and the replies
+    /// that it will send then: the exclusions that were processed and none of whose ids is in it are acknowledged, and who was to be shown
+    /// the state is. The tasks stay as they are.
+    pub fn once_applied(
+        &self,
+        committed: &VotingConfig,
+        accepted: &SharedState,
+    ) -> Result<Applied, AllocError>
+        ensures left { IfOk result (λ a. a.tasks ≡ without_answered (applied_in committed.now accepted.now) self.now) }
+        ensures sent { IfOk result (λ a. a.replies.sent ≡ answers_by (applied_in committed.now accepted.now) self.now.waiting) }
     {
-        self.answer(&Decision::Applied(committed, id), out);
+        let mut waiting = Vec::new(self.alloc);
+        let mut replies = Replies::with_room(self.alloc, self.waiting.len())?;
+        for w in &self.waiting {
+            match applied_in_by(committed, accepted, w)? {
+                Some(answer) => replies.push(w.answer(answer)),
+                None => waiting.push(w.copy()?)?,
+            }
+        }
+        let tasks = MasterTasks {
+            alloc: self.alloc,
+            waiting,
+            removals: self.removals.copy(),
+            additions: self.additions.copy(),
+        };
+        Ok(Applied { tasks, replies })
     }
 
     /// It is this late, in ms: the exclusions that have waited 30,000 ms or more are answered with those of their ids
@@ -262,26 +286,36 @@ impl MasterTasks {
     // anything.
     fn process(
         &self,
+        second: bool,
         accepted: &SharedState,
         value: &mut ClusterValue,
     ) -> Result<Processed, AllocError>
-        ensures value { OnOk result (value.new ≡ (processed_all accepted.now value.old self.now.waiting).value) }
-        ensures waiting { IfOk result (λ p. p.waiting.items ≡ (processed_all accepted.now value.old self.now.waiting).waiting) }
+        ensures value { OnOk result (value.new ≡ (processed_all second accepted.now value.old self.now.waiting).value) }
+        ensures waiting { IfOk result (λ p. p.waiting.items ≡ (processed_all second accepted.now value.old self.now.waiting).waiting) }
+        ensures anew { IfOk result (λ p. p.anew ≡ (processed_all second accepted.now value.old self.now.waiting).anew) }
         ensures replies { IfOk result
             (λ p. p.replies ≡ with_sent (room_for (length self.now.waiting))
-            (processed_all accepted.now value.old self.now.waiting).answers) }
+            (processed_all second accepted.now value.old self.now.waiting).answers) }
         ensures fits { IfOk result (λ p. length p.waiting.items ≤ p.replies.room) }
         ensures few { IfOk result (λ p. length p.waiting.items ≤ MAX_OPEN) }
     {
         let mut waiting = Vec::new(self.alloc);
+        let mut anew = false;
         let mut replies = Replies::with_room(self.alloc, self.waiting.len())?;
         for w in &self.waiting {
-            match process_once(self.alloc, accepted, value, w)? {
+            match process_once(self.alloc, second, accepted, value, w)? {
                 Some(answer) => replies.push(w.answer(answer)),
-                None => waiting.push(w.processed()?)?,
+                None => {
+                    anew |= !w.processed;
+                    waiting.push(w.processed()?)?;
+                }
             }
         }
-        Ok(Processed { waiting, replies })
+        Ok(Processed {
+            waiting,
+            anew,
+            replies,
+        })
     }
 
     // Whether nothing waits, and nobody is to come or to go.
@@ -291,11 +325,11 @@ impl MasterTasks {
         self.waiting.is_empty() && self.keeps_members()
     }
 
-    // Whether a state is sent since anybody joins, or a write waits.
-    fn sends_anew(&self, policy: Policy, waiting: &Vec<Waiting>) -> bool
-        ensures { result ≡ sends_anew_of policy self.now.additions waiting.now.items }
+    // Whether a state is made since anybody joins, or a request was processed.
+    fn makes_anew(&self, policy: Policy, anew: bool) -> bool
+        ensures { result ≡ makes_anew_of policy self.now.additions anew }
     {
-        (self.additions.len() > 0 || has_writes(waiting)) && policy.second
+        (self.additions.len() > 0 || anew) && policy.second
     }
 
     // Whether no state is sent for itself, and the configuration and the value are the accepted ones, in this term.
@@ -304,13 +338,13 @@ impl MasterTasks {
         term: u64,
         accepted: &ClusterState,
         policy: Policy,
-        waiting: &Vec<Waiting>,
+        anew: bool,
         config: &IdList,
         value: &ClusterValue,
     ) -> bool
-        ensures { result ≡ (not (sends_anew_of policy self.now.additions waiting.now.items) && is_accepted_of term accepted.now config.now value.now) }
+        ensures { result ≡ (not (makes_anew_of policy self.now.additions anew) && is_accepted_of term accepted.now config.now value.now) }
     {
-        !self.sends_anew(policy, waiting) && is_accepted(term, accepted, config, value)
+        !self.makes_anew(policy, anew) && is_accepted(term, accepted, config, value)
     }
 
     /// Whether it is plain that nothing comes of the tasks, before [`prepare`](MasterTasks::prepare) makes a value: nothing waits, nobody
@@ -340,8 +374,8 @@ impl MasterTasks {
     /// members that are to go leave it, but never the node itself; members that are to come join it as far as there
     /// is room, the node itself first; and the requests that were not processed yet are processed from the first on, each
     /// on the value so far. Where that is the accepted value and configuration, in the current term, it is `Same`, and
-    /// what waits is acknowledged; but in the second profile it is `New` where anybody is to come, or a put, a remove or
-    /// a clear waits. The tasks stay as they are: [`MasterTasks::leave_only`] takes over who waits on.
+    /// what waits is acknowledged; but in the second profile it is `New` where anybody is to come, or a request was
+    /// processed. The tasks stay as they are: [`MasterTasks::leave_only`] takes over who waits on.
     pub fn prepare(
         &self,
         me: NodeId,
@@ -365,12 +399,13 @@ impl MasterTasks {
         let mut value = self.value_before(me, &state.value)?;
         let Processed {
             mut waiting,
+            anew,
             mut replies,
-        } = self.process(accepted, &mut value)?;
+        } = self.process(policy.second, accepted, &mut value)?;
         let config = config_for(
             self.alloc, me, term, state, committed, votes, policy, &value,
         )?;
-        if self.is_nothing_new(term, state, policy, &waiting, &config, &value) {
+        if self.is_nothing_new(term, state, policy, anew, &config, &value) {
             answer_by(
                 &mut waiting,
                 &Decision::NothingNew(committed, state.id()),
@@ -479,26 +514,14 @@ fn answer_by(waiting: &mut Vec<Waiting>, decision: &Decision, out: &mut Replies)
     }
 }
 
-// Whether it is a put, a remove or a clear.
-fn is_write(ask: &Ask) -> bool
-    ensures { result ≡ is_write_of ask.now }
-{
-    match ask {
-        Ask::Put { .. } | Ask::Remove { .. } | Ask::Clear { .. } => true,
-        Ask::Exclude(_) | Ask::State => false,
-    }
-}
-
-// Whether a put, a remove or a clear waits.
-fn has_writes(waiting: &Vec<Waiting>) -> bool
-    ensures { result ≡ has_writes_of waiting.now.items }
-{
-    waiting.iter().any(|w| is_write(&w.request.ask))
-}
-
 // Whether another configuration may be wanted.
-fn may_move(term: u64, accepted: &ClusterState, committed: &VotingConfig, policy: Policy) -> bool
-    ensures { result ≡ may_move_of term accepted.now committed.now policy }
+fn may_reconfigure(
+    term: u64,
+    accepted: &ClusterState,
+    committed: &VotingConfig,
+    policy: Policy,
+) -> bool
+    ensures { result ≡ may_reconfigure_of term accepted.now committed.now policy }
 {
     committed.is_same_list(&accepted.config) && (!policy.second || accepted.term == term)
 }
@@ -517,7 +540,7 @@ fn config_for(
 ) -> Result<IdList, AllocError>
     ensures { IfOk result (λ config. config ≡ config_for_of me term accepted.now committed.now votes.now policy value.now) }
 {
-    if !may_move(term, accepted, committed, policy) {
+    if !may_reconfigure(term, accepted, committed, policy) {
         return accepted.config.copy();
     }
     target_for(alloc, me, &accepted.config, votes, policy.shrink, value)
@@ -614,7 +637,7 @@ fn keeps_config(
     ensures { IsTrue result
         → config_for_of me term accepted.now committed.now votes.now policy accepted.now.value ≡ accepted.now.config }
 {
-    if !may_move(term, accepted, committed, policy) {
+    if !may_reconfigure(term, accepted, committed, policy) {
         return true;
     }
     is_target(me, &accepted.config, votes, policy.shrink, &accepted.value)

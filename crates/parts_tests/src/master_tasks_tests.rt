@@ -607,7 +607,7 @@ fn reply_on(tasks: &mut MasterTasks, occasion: Occasion, out: &mut Replies) {
     match occasion {
         Occasion::Failed(term) => tasks.fail_all(term, out),
         Occasion::Committed => tasks.ack_committed(SECOND, out),
-        Occasion::Applied(voters) => tasks.ack_exclusions(&config(voters), SECOND, out),
+        Occasion::Applied(voters) => tasks.answer_applied(&config(voters), SECOND, out),
         Occasion::Late(now) => tasks.time_out_exclusions(&config("a,b,c"), now, out),
     }
 }

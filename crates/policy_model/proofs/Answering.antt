@@ -111,10 +111,10 @@ module _ (s : Settings) where
 
   answered-makes_state : (v : View) → IsAnswered s v (next.makes_state s v)
   answered-makes_state v =
-      let answers = next_answers (as_master s v.node) v.tasks in
+      let answers = next_answers (master_now s v) v.tasks in
       answered-append v (doing.reply_all s answers) _ (answered-quiet v _ (quiet-replies s answers))
       (rw (moved_all-replies s v answers)
-      (ByQuiet v (Notes StateMade) _ refl (answered-when_made v (is_nothing_new (as_master s v.node) v.tasks))))
+      (ByQuiet v (Notes StateMade) _ refl (answered-when_made v (is_nothing_new (master_now s v) v.tasks))))
 
   quiet-asks_successor : (v : View) (o : Option Id) → IsQuiet (next.asks_successor s v o)
   quiet-asks_successor v None = search (Silent)
@@ -224,8 +224,8 @@ module _ (s : Settings) where
       (answered-quiet _ _ (quiet-if _ _ _ (quiet-sends_commit (doing.after_act s v act) (publications.is_commit_sent v.publication) p id) Silent)))
       (Ended v)
 
-  quiet-acks_exclusions : (v : View) → IsQuiet (publications.acks_exclusions s v)
-  quiet-acks_exclusions v = search (quiet-append, quiet-replies, Silent, Also)
+  quiet-answers_applied : (v : View) → IsQuiet (publications.answers_applied s v)
+  quiet-answers_applied v = search (quiet-append, quiet-replies, Silent, Also)
 
   answered-told_commit : (v : View) (p : Id) (id : StateId) → IsAnswered s v (publications.on_commit s v p id)
   answered-told_commit v p id =
@@ -233,7 +233,7 @@ module _ (s : Settings) where
       let after = doing.after_act s v act in
       ByAct v act _ refl
       (answered-if after _ _ _
-      (answered-then after _ (next.goes_on s) (answered-quiet after _ (quiet-acks_exclusions after)) answered-goes_on) (Ended after))
+      (answered-then after _ (next.goes_on s) (answered-quiet after _ (quiet-answers_applied after)) answered-goes_on) (Ended after))
 
   -- checks
   quiet-checks_followers : (v : View) → IsQuiet (checks.checks_followers s v)
@@ -315,8 +315,8 @@ module _ (s : Settings) where
   answered-frame v f = answered-if v (same f.to s.me) _ _ (answered-message v f.from f.message) (Ended v)
 
   -- a connection that has ended
-  answered-leads_anew : (v : View) → IsAnswered s v (disconnects.leads_anew s v)
-  answered-leads_anew v =
+  answered-stands_anew : (v : View) → IsAnswered s v (disconnects.stands_anew s v)
+  answered-stands_anew v =
       answered-then v _ (λ u. elections.stands_for_election s u (u.node.term + 1)) (answered-quiet v _ (quiet-becomes_candidate v))
       (λ u. answered-quiet u _ (quiet-stands_for_election u (u.node.term + 1)))
 
@@ -325,7 +325,7 @@ module _ (s : Settings) where
   answered-loses v p Leader =
       answered-if v _ _ _
       (answered-then v _ (disconnects.goes_on_with_rest s) (answered-quiet v _ (Also _ _ refl (Also _ _ refl Silent)))
-      (λ u. answered-if u (disconnects.keeps_quorum s u) _ _ (answered-goes_on u) (answered-leads_anew u)))
+      (λ u. answered-if u (disconnects.keeps_quorum s u) _ _ (answered-goes_on u) (answered-stands_anew u)))
       (Ended v)
   answered-loses v p (Follower leader) = answered-if v (same leader p) _ _ (answered-quiet v _ (quiet-append _ _ (quiet-becomes_candidate v) (Also _ _ refl Silent))) (Ended v)
 

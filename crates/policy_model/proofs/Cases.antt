@@ -16,7 +16,7 @@ use Rattle.master_tasks.specs.declared.waiting.Waiting.{Waiting}
 use Rattle.master_tasks.specs.Queue.{no_tasks}
 use Rattle.pre_vote.specs.Rounds.{started}
 use Rattle.policy_model.specs.declared.settings.Settings.{Settings}
-use Rattle.policy_model.specs.Events.{Candidate, Leader, Follower, Checks, Lag, Disconnect, Item, ChangesMode, Drops, Sends, Replies, Notes, Met, Heard, RoundAnswered, RoundEnded, Joined, FollowersChecked, LeaderChecked, ExclusionsTimedOut, CommitAcked, ExclusionsAcked, HandedOver, PeerLost}
+use Rattle.policy_model.specs.Events.{Candidate, Leader, Follower, Checks, Lag, Disconnect, Item, ChangesMode, Drops, Sends, Replies, Notes, Met, Heard, RoundAnswered, RoundEnded, Joined, FollowersChecked, LeaderChecked, ExclusionsTimedOut, CommitAcked, AppliedAnswered, HandedOver, PeerLost}
 use Rattle.policy_model.specs.Parts.{no_peers, no_followers, published_at}
 use Rattle.policy_model.specs.Views.{View}
 use Rattle.policy_model.specs.Moves.{moved}
@@ -25,7 +25,7 @@ use Rattle.policy_model.specs.Disconnects.{loses_follower}
 use Rattle.policy_model.specs.Elections.{election_rank, begins_round, waits_until, on_pre_vote_ask, on_pre_vote_answer}
 use Rattle.policy_model.specs.Discovery.{on_peers_answer}
 use Rattle.policy_model.specs.Joins.{on_join_ask}
-use Rattle.policy_model.specs.Publications.{sends_first_commit, acks_exclusions}
+use Rattle.policy_model.specs.Publications.{sends_first_commit, answers_applied}
 use Rattle.policy_model.specs.Checks.{checks_followers, checks_leader, on_follower_check, on_leader_check}
 use Rattle.policy_model.specs.Requests.{times_out_exclusions}
 
@@ -264,11 +264,11 @@ module _ (v : View) where
   commit_is_not_enough = refl
 
   -- it is acknowledged once none of its nodes votes
-  votes_no_more : acks_exclusions three (answering (a ∷ []) 200)
-      ≡ Replies (record { conn = 5; reply = reply.To 9 (answer.Acked (id_of v.node.accepted)) }) ∷ Notes ExclusionsAcked ∷ []
+  votes_no_more : answers_applied three (answering (a ∷ []) 200)
+      ≡ Replies (record { conn = 5; reply = reply.To 9 (answer.Acked (id_of v.node.accepted)) }) ∷ Notes AppliedAnswered ∷ []
   votes_no_more = refl
 
-  still_votes : acks_exclusions three (answering (a ∷ c ∷ []) 200) ≡ Notes ExclusionsAcked ∷ []
+  still_votes : answers_applied three (answering (a ∷ c ∷ []) 200) ≡ Notes AppliedAnswered ∷ []
   still_votes = refl
 
   -- or told after 30 seconds which of them still vote

@@ -41,7 +41,7 @@ use Rattle.fault_checks.specs.declared.leader.LeaderTick.TheVariants.{Quiet, Ask
 use Rattle.fault_checks.specs.Leaders.{LeaderCheck, leader_tick}
 use Rattle.master_tasks.specs.declared.waiting.Outgoing.{Outgoing}
 use Rattle.master_tasks.specs.declared.waiting.Waiting.{Waiting}
-use Rattle.master_tasks.specs.Answering.{timed_out, committed_in, exclusion_done}
+use Rattle.master_tasks.specs.Answering.{timed_out, committed_in, applied_in}
 use Rattle.master_tasks.specs.Fitting.{HaveGoodSettings}
 use Rattle.master_tasks.specs.NextState.{next_answers, is_nothing_new}
 use Rattle.master_tasks.specs.Queue.{Tasks, is_full_of, arriving, to_be_added}
@@ -59,7 +59,7 @@ use Rattle.world_model.specs.Acts.{is_effective}
 use Rattle.world_model.specs.NodeState.{NodeState}
 use Rattle.world_model.specs.Replies.{reply_at, is_taken, after_check, start_checked, start_reply, value_reply, publish_reply}
 use Rattle.policy_model.specs.declared.settings.Settings.{Settings}
-use Rattle.policy_model.specs.Events.{Mode, Candidate, Leader, Follower, Event, Start, Tick, FrameCame, LineCame, PeerGone, DropCause, Note, Met, Heard, PeersAsked, ElectionOff, ElectionSet, RoundBegun, RoundAnswered, RoundEnded, Joined, FollowersChecked, FollowerAnswered, LeaderChecked, LeaderAnswered, Queued, ExclusionsTimedOut, CommitAcked, ExclusionsAcked, StateMade, HandedOver, PeerLost, LeaderLost, Item, Opens, Begins, Acts, ChangesMode, Drops, Sends, Replies, Notes}
+use Rattle.policy_model.specs.Events.{Mode, Candidate, Leader, Follower, Event, Start, Tick, FrameCame, LineCame, PeerGone, DropCause, Note, Met, Heard, PeersAsked, ElectionOff, ElectionSet, RoundBegun, RoundAnswered, RoundEnded, Joined, FollowersChecked, FollowerAnswered, LeaderChecked, LeaderAnswered, Queued, ExclusionsTimedOut, CommitAcked, AppliedAnswered, StateMade, HandedOver, PeerLost, LeaderLost, Item, Opens, Begins, Acts, ChangesMode, Drops, Sends, Replies, Notes}
 use Rattle.policy_model.specs.Entries.{frames_in, put_frame, by_receiver}
 use Rattle.policy_model.specs.Parts.{as_master, all_to_be_added, round_answered, published_id}
 use Rattle.policy_model.specs.LookBacks.{yields}
@@ -150,8 +150,8 @@ module _ (s : Settings) where
   note-fits v (Queued conn request) f e = with_waiting v.node v.applied v.round v.tasks.waiting _ f (good_offered v.tasks (arriving conn v.moment request) f.good e)
   note-fits v ExclusionsTimedOut f e = with_waiting v.node v.applied v.round v.tasks.waiting _ f (good_left (timed_out v.node.committed v.moment) v.tasks.waiting f.good)
   note-fits v CommitAcked f e = with_waiting v.node v.applied v.round v.tasks.waiting _ f (good_left (committed_in (published_id v.node)) v.tasks.waiting f.good)
-  note-fits v ExclusionsAcked f e = with_waiting v.node v.applied v.round v.tasks.waiting _ f (good_left (exclusion_done v.node.committed (id_of v.node.accepted)) v.tasks.waiting f.good)
-  note-fits v StateMade f e = with_waiting v.node v.applied v.round v.tasks.waiting _ f (good_after (as_master s v.node) v.tasks f.good)
+  note-fits v AppliedAnswered f e = with_waiting v.node v.applied v.round v.tasks.waiting _ f (good_left (applied_in v.node.committed v.node.accepted) v.tasks.waiting f.good)
+  note-fits v StateMade f e = with_waiting v.node v.applied v.round v.tasks.waiting _ f (good_after (master_now s v) v.tasks f.good)
   note-fits v HandedOver f e = f
   note-fits v (PeerLost id) f e = f
   note-fits v LeaderLost f e = f
@@ -399,7 +399,7 @@ module _ (s : Settings) where
   -- ---- the next state
 
   next-fits : (v : View) → IsFitView v → IsFitValue (next.value_now s v)
-  next-fits v f = fits_next (as_master s v.node) v.tasks f.accepted.value (ascending_keys [] v.node.accepted.value.settings refl f.settings.ascending) f.good
+  next-fits v f = fits_next (master_now s v) v.tasks f.accepted.value (ascending_keys [] v.node.accepted.value.settings refl f.settings.ascending) f.good
 
   fit-publishes : (v made : View) → IsFitView v → IsFitView made → Fit made (next.publishes s v made)
   fit-publishes v made f g =
@@ -417,11 +417,11 @@ module _ (s : Settings) where
 
   fit-makes_state : (v : View) → IsFitView v → Fit v (next.makes_state s v)
   fit-makes_state v f =
-      let answers = next_answers (as_master s v.node) v.tasks in
+      let answers = next_answers (master_now s v) v.tasks in
       fit-append v (doing.reply_all s answers) _ (fit-sound v _ f (sound-replies answers))
       (rw (moved_all-replies s v answers) (λ g.
       fit-item v (Notes StateMade) _ f tt (λ h.
-      fit-if _ (is_nothing_new (as_master s v.node) v.tasks) _ _ (λ e. fit-none _ h) (fit-publishes v _ f h))))
+      fit-if _ (is_nothing_new (master_now s v) v.tasks) _ _ (λ e. fit-none _ h) (fit-publishes v _ f h))))
 
   sound-asks_successor : (v : View) (o : Option Id) → AreSound (next.asks_successor s v o)
   sound-asks_successor v None = Silent
@@ -546,8 +546,8 @@ module _ (s : Settings) where
       (λ b. fit-act v act _ f tt (λ g.
       fit-sound _ _ g (sound-if _ _ _ (sound-sends_commit (doing.after_act s v act) (publications.is_commit_sent v.publication) p id e) Silent))) (fit-none v f)
 
-  sound-acks_exclusions : (v : View) → AreSound (publications.acks_exclusions s v)
-  sound-acks_exclusions v = sound-append _ _ (sound-replies _) (Also _ _ tt Silent)
+  sound-answers_applied : (v : View) → AreSound (publications.answers_applied s v)
+  sound-answers_applied v = sound-append _ _ (sound-replies _) (Also _ _ tt Silent)
 
   fit-told_commit : (v : View) (p : Id) (id : StateId) → IsFitView v → Fit v (publications.on_commit s v p id)
   fit-told_commit v p id f =
@@ -555,7 +555,7 @@ module _ (s : Settings) where
       let after : View = doing.after_act s v act in
       fit-act v act _ f tt (λ g.
       fit-if after (doing.takes s v act && doing.is_leader after.mode) _ _
-      (λ e. fit-then after _ (next.goes_on s) (fit-sound after _ g (sound-acks_exclusions after)) fit-goes_on) (fit-none after g))
+      (λ e. fit-then after _ (next.goes_on s) (fit-sound after _ g (sound-answers_applied after)) fit-goes_on) (fit-none after g))
 
   -- ---- checks
 
@@ -643,8 +643,8 @@ module _ (s : Settings) where
   fit-message v p (message.LeaderCheck term) f e h = fit-sound v _ f (Also _ _ tt Silent)
   fit-message v p (message.LeaderAnswer good) f e h = fit-sound v _ f (sound-answered_by_leader v p good)
 
-  fit-leads_anew : (v : View) → IsFitView v → Fit v (disconnects.leads_anew s v)
-  fit-leads_anew v f =
+  fit-stands_anew : (v : View) → IsFitView v → Fit v (disconnects.stands_anew s v)
+  fit-stands_anew v f =
       fit-then v _ (λ u. elections.stands_for_election s u (u.node.term + 1)) (fit-sound v _ f (sound-becomes_candidate v))
       (λ u g. fit-sound u _ g (sound-stands u (u.node.term + 1)))
 
@@ -653,7 +653,7 @@ module _ (s : Settings) where
   fit-loses v p Leader f =
       fit-if v (has p (ids_of v.followers.watched)) _ _
       (λ e. fit-then v (disconnects.drops_follower s p) (disconnects.goes_on_with_rest s) (fit-sound v _ f (Also _ _ tt (Also _ _ tt Silent)))
-      (λ u g. fit-if u (disconnects.keeps_quorum s u) _ _ (λ k. fit-goes_on u g) (fit-leads_anew u g)))
+      (λ u g. fit-if u (disconnects.keeps_quorum s u) _ _ (λ k. fit-goes_on u g) (fit-stands_anew u g)))
       (fit-none v f)
   fit-loses v p (Follower leader) f = fit-if v (same leader p) _ _ (λ e. fit-sound v _ f (sound-append _ _ (sound-becomes_candidate v) (Also _ _ tt Silent))) (fit-none v f)
 

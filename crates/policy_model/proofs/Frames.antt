@@ -53,7 +53,7 @@ use Rattle.world_model.specs.declared.acts.Act.{Act}
 use Rattle.world_model.specs.declared.acts.Act.TheVariants.{Bootstrap, StartJoin, TakeJoin, Value, Publish, Response, Commit, Open}
 use Rattle.voting_config.proofs.Sets.{same_self, length-with_id-le, length-set_of}
 use Rattle.policy_model.specs.declared.settings.Settings.{Settings}
-use Rattle.policy_model.specs.Events.{Mode, Candidate, Leader, Follower, Event, Start, Tick, FrameCame, LineCame, PeerGone, DropCause, Checks, Lag, Note, Met, Heard, PeersAsked, ElectionOff, ElectionSet, RoundBegun, RoundAnswered, RoundEnded, Joined, FollowersChecked, FollowerAnswered, LeaderChecked, LeaderAnswered, Queued, ExclusionsTimedOut, CommitAcked, ExclusionsAcked, StateMade, HandedOver, PeerLost, LeaderLost, Item, Opens, Begins, Acts, ChangesMode, Drops, Sends, Replies, Notes}
+use Rattle.policy_model.specs.Events.{Mode, Candidate, Leader, Follower, Event, Start, Tick, FrameCame, LineCame, PeerGone, DropCause, Checks, Lag, Note, Met, Heard, PeersAsked, ElectionOff, ElectionSet, RoundBegun, RoundAnswered, RoundEnded, Joined, FollowersChecked, FollowerAnswered, LeaderChecked, LeaderAnswered, Queued, ExclusionsTimedOut, CommitAcked, AppliedAnswered, StateMade, HandedOver, PeerLost, LeaderLost, Item, Opens, Begins, Acts, ChangesMode, Drops, Sends, Replies, Notes}
 use Rattle.policy_model.specs.Entries.{frames_in, put_frame, by_receiver}
 use Rattle.policy_model.specs.Parts.{as_master, met, published_at, responded, after_response, finished, watched, state_finished}
 use Rattle.policy_model.specs.Views.{View}
@@ -282,7 +282,7 @@ module _ (s : Settings) where
   note-small v (Queued conn request) f = f
   note-small v ExclusionsTimedOut f = f
   note-small v CommitAcked f = f
-  note-small v ExclusionsAcked f = f
+  note-small v AppliedAnswered f = f
   note-small v StateMade f = f
   note-small v HandedOver f = f
   note-small v LeaderLost f = record { members = f.members; peers = f.peers; watched = f.watched; targets = f.targets; responders = f.responders }
@@ -419,7 +419,7 @@ module _ (s : Settings) where
   -- ---- the next state
 
   few-value : (v : View) → IsSmallView v → length (next.value_now s v).members ≤ most_ids
-  few-value v f = few-next (as_master s v.node) v.tasks f.members
+  few-value v f = few-next (master_now s v) v.tasks f.members
 
   few-publishes : (v made : View) → IsSmallView v → IsSmallView made → Few 64 made (next.publishes s v made)
   few-publishes v made f g =
@@ -428,11 +428,11 @@ module _ (s : Settings) where
 
   few-makes_state : (v : View) → IsSmallView v → Few 64 v (next.makes_state s v)
   few-makes_state v f =
-      let answers = next_answers (as_master s v.node) v.tasks in
+      let answers = next_answers (master_now s v) v.tasks in
       few-append 0 64 v (doing.reply_all s answers) _ (few-replies v answers f)
       (rw (moved_all-replies s v answers) (λ g.
       few-item 64 v (Notes StateMade) _ refl f (λ h.
-      few-if 64 _ (is_nothing_new (as_master s v.node) v.tasks) _ _ (none-within 64 _ h) (few-publishes v _ f h))))
+      few-if 64 _ (is_nothing_new (master_now s v) v.tasks) _ _ (none-within 64 _ h) (few-publishes v _ f h))))
 
   few-asks_successor : (u v : View) (o : Option Id) → IsSmallView u → IsSmallView v → Few 64 u (next.asks_successor s v o)
   few-asks_successor u v None g f = none-within 64 u g
@@ -587,8 +587,8 @@ module _ (s : Settings) where
       (few-act 64 v act _ f tt (λ g.
       few-if 64 _ _ _ _ (few-sends_commit (doing.after_act s v act) (publications.is_commit_sent v.publication) p id g) (none-within 64 _ g))) (none-within 64 v f)
 
-  few-acks_exclusions : (v : View) → IsSmallView v → Few 0 v (publications.acks_exclusions s v)
-  few-acks_exclusions v f = few-append 0 0 v _ _ (few-replies v _ f) (λ g. few-item 0 _ (Notes ExclusionsAcked) [] refl g (λ h. few-none _ h))
+  few-answers_applied : (v : View) → IsSmallView v → Few 0 v (publications.answers_applied s v)
+  few-answers_applied v f = few-append 0 0 v _ _ (few-replies v _ f) (λ g. few-item 0 _ (Notes AppliedAnswered) [] refl g (λ h. few-none _ h))
 
   few-told_commit : (v : View) (p : Id) (id : StateId) → IsSmallView v → Few 64 v (publications.on_commit s v p id)
   few-told_commit v p id f =
@@ -596,7 +596,7 @@ module _ (s : Settings) where
       let after : View = doing.after_act s v act in
       few-act 64 v act _ f tt (λ g.
       few-if 64 after (doing.takes s v act && doing.is_leader after.mode) _ _
-      (few-then 0 64 after _ (next.goes_on s) (few-acks_exclusions after g) few-goes_on) (none-within 64 after g))
+      (few-then 0 64 after _ (next.goes_on s) (few-answers_applied after g) few-goes_on) (none-within 64 after g))
 
   -- ---- checks
 
@@ -689,8 +689,8 @@ module _ (s : Settings) where
   few-message v p (message.LeaderCheck term) f h = few-more 1 65 v _ (omega arith) (few-send 0 v _ _ f (λ g. few-none v g))
   few-message v p (message.LeaderAnswer good) f h = few-more 0 65 v _ (omega arith) (few-note v (doing.follows_node v.mode p) (LeaderAnswered good) f)
 
-  few-leads_anew : (v : View) → IsSmallView v → Few 64 v (disconnects.leads_anew s v)
-  few-leads_anew v f =
+  few-stands_anew : (v : View) → IsSmallView v → Few 64 v (disconnects.stands_anew s v)
+  few-stands_anew v f =
       few-then 0 64 v _ (λ u. elections.stands_for_election s u (u.node.term + 1)) (few-becomes_candidate v f)
       (λ u g. few-stands u u (u.node.term + 1) g g)
 
@@ -700,7 +700,7 @@ module _ (s : Settings) where
       let after : View = moved_all s v (disconnects.drops_follower s p) in
       few-if 64 v _ _ _
       (few-item 64 v _ _ refl f (λ g. few-item 64 _ _ _ refl g
-      (λ h. few-if 64 after (disconnects.keeps_quorum s after) _ _ (few-goes_on after h) (few-leads_anew after h))))
+      (λ h. few-if 64 after (disconnects.keeps_quorum s after) _ _ (few-goes_on after h) (few-stands_anew after h))))
       (none-within 64 v f)
   few-loses v p (Follower leader) f = few-if 64 v (same leader p) _ _ (few-more 0 64 v _ (omega arith) (few-append 0 0 v _ _ (few-becomes_candidate v f) (λ g. few-item 0 _ _ _ refl g (λ h. few-none _ h)))) (none-within 64 v f)
 

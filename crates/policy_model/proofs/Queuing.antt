@@ -7,7 +7,7 @@ use Rattle.master_tasks.specs.declared.waiting.Waiting.{Waiting}
 use Rattle.master_tasks.specs.declared.waiting.Outgoing.{Outgoing}
 use Rattle.master_tasks.specs.Queue.{arriving}
 use Rattle.policy_model.specs.declared.settings.Settings.{Settings}
-use Rattle.policy_model.specs.Events.{Mode, Candidate, Leader, Follower, Event, Start, Tick, FrameCame, LineCame, PeerGone, Begins, Note, Met, Heard, PeersAsked, ElectionOff, ElectionSet, RoundBegun, RoundAnswered, RoundEnded, Joined, FollowersChecked, FollowerAnswered, LeaderChecked, LeaderAnswered, Queued, ExclusionsTimedOut, CommitAcked, ExclusionsAcked, StateMade, HandedOver, PeerLost, LeaderLost, Item, Opens, Acts, ChangesMode, Drops, Sends, Replies, Notes, Log, And, added}
+use Rattle.policy_model.specs.Events.{Mode, Candidate, Leader, Follower, Event, Start, Tick, FrameCame, LineCame, PeerGone, Begins, Note, Met, Heard, PeersAsked, ElectionOff, ElectionSet, RoundBegun, RoundAnswered, RoundEnded, Joined, FollowersChecked, FollowerAnswered, LeaderChecked, LeaderAnswered, Queued, ExclusionsTimedOut, CommitAcked, AppliedAnswered, StateMade, HandedOver, PeerLost, LeaderLost, Item, Opens, Acts, ChangesMode, Drops, Sends, Replies, Notes, Log, And, added}
 use Rattle.policy_model.specs.Entries.{Did, Life, NotBegun, Opened, Lived, log_of}
 use Rattle.policy_model.specs.LookBacks.{mode_of, moment_of, tasks_of}
 use Rattle.policy_model.specs.Views.{View, view_of}
@@ -55,7 +55,7 @@ aside-same s l (Replies out) h = record {
 aside-same s l (Notes (Queued conn request)) h = absurd (cc)
 aside-same s l (Notes ExclusionsTimedOut) h = absurd (cc)
 aside-same s l (Notes CommitAcked) h = absurd (cc)
-aside-same s l (Notes ExclusionsAcked) h = absurd (cc)
+aside-same s l (Notes AppliedAnswered) h = absurd (cc)
 aside-same s l (Notes StateMade) h = absurd (cc)
 aside-same s l (Notes (Joined ids)) h = record { own = refl; queued = refl; waiting = waiting-added (tasks_of s l) ids; replied = refl }
 aside-same s l (Notes note) h = record { own = refl; queued = refl; waiting = refl; replied = refl }
@@ -119,7 +119,7 @@ aside-idle s v (Sends frame) h idle = idle
 aside-idle s v (Replies out) h idle = idle
 aside-idle s v (Notes ExclusionsTimedOut) h idle = absurd (cc)
 aside-idle s v (Notes CommitAcked) h idle = absurd (cc)
-aside-idle s v (Notes ExclusionsAcked) h idle = absurd (cc)
+aside-idle s v (Notes AppliedAnswered) h idle = absurd (cc)
 aside-idle s v (Notes StateMade) h idle = absurd (cc)
 aside-idle s v (Notes (Queued conn request)) h idle = absurd (cc)
 aside-idle s v (Notes (Joined ids)) h idle = λ k. waiting-added v.tasks ids ∙ idle k
@@ -142,7 +142,7 @@ note-mode s v (LeaderAnswered good) = refl
 note-mode s v (Queued conn request) = refl
 note-mode s v ExclusionsTimedOut = refl
 note-mode s v CommitAcked = refl
-note-mode s v ExclusionsAcked = refl
+note-mode s v AppliedAnswered = refl
 note-mode s v StateMade = refl
 note-mode s v HandedOver = refl
 note-mode s v (PeerLost id) = refl

@@ -33,7 +33,7 @@ use Rattle.world_model.specs.declared.acts.Act.{Act}
 use Rattle.world_model.specs.Moves.{is_opening}
 use Rattle.world_model.specs.declared.acts.Act.TheVariants.{StartJoin, TakeJoin, Publish, Response, Commit}
 use Rattle.policy_model.specs.declared.settings.Settings.{Settings}
-use Rattle.policy_model.specs.Events.{Mode, Candidate, Leader, Follower, Event, Start, Tick, FrameCame, LineCame, PeerGone, DropCause, Note, Item, Opens, Acts, ChangesMode, Replies, Notes, LeaderChecked, Queued, ExclusionsTimedOut, CommitAcked, ExclusionsAcked, StateMade}
+use Rattle.policy_model.specs.Events.{Mode, Candidate, Leader, Follower, Event, Start, Tick, FrameCame, LineCame, PeerGone, DropCause, Note, Item, Opens, Acts, ChangesMode, Replies, Notes, LeaderChecked, Queued, ExclusionsTimedOut, CommitAcked, AppliedAnswered, StateMade}
 use Rattle.policy_model.specs.Parts.{as_master, published_id}
 use Rattle.policy_model.specs.Views.{View}
 use Rattle.policy_model.specs.Moves.{moved, moved_all}
@@ -61,7 +61,7 @@ is_aside (Replies out) = answers_line out.reply
 is_aside (Notes (Queued conn request)) = false
 is_aside (Notes ExclusionsTimedOut) = false
 is_aside (Notes CommitAcked) = false
-is_aside (Notes ExclusionsAcked) = false
+is_aside (Notes AppliedAnswered) = false
 is_aside (Notes StateMade) = false
 is_aside i = true
 
@@ -69,7 +69,7 @@ is_aside i = true
 abbrev pub is_answering : Note → Bool
 is_answering ExclusionsTimedOut = true
 is_answering CommitAcked = true
-is_answering ExclusionsAcked = true
+is_answering AppliedAnswered = true
 is_answering StateMade = true
 is_answering note = false
 
@@ -186,8 +186,8 @@ module _ (s : Settings) where
 
   served-makes_state : (v : View) → IsServed s v (next.makes_state s v)
   served-makes_state v =
-      Answers v (next_answers (as_master s v.node) v.tasks) StateMade _ refl (next-step (as_master s v.node) v.tasks)
-      (served-if _ (is_nothing_new (as_master s v.node) v.tasks) _ _ (Ended _) (served-publishes v (moved s v (Notes StateMade))))
+      Answers v (next_answers (master_now s v) v.tasks) StateMade _ refl (next-step (master_now s v) v.tasks)
+      (served-if _ (is_nothing_new (master_now s v) v.tasks) _ _ (Ended _) (served-publishes v (moved s v (Notes StateMade))))
 
   aside-asks_successor : (v : View) (o : Option Id) → AreAside (next.asks_successor s v o)
   aside-asks_successor v None = Nothing
@@ -301,16 +301,16 @@ module _ (s : Settings) where
       (served-sends_commit (doing.after_act s v act) (publications.is_commit_sent v.publication) p id) (Ended _)))
       (Ended v)
 
-  served-acks_exclusions : (v : View) → IsServed s v (publications.acks_exclusions s v)
-  served-acks_exclusions v =
-      Answers v _ ExclusionsAcked [] refl (done-step v.node.committed (id_of v.node.accepted) v.tasks.waiting) (Ended _)
+  served-answers_applied : (v : View) → IsServed s v (publications.answers_applied s v)
+  served-answers_applied v =
+      Answers v _ AppliedAnswered [] refl (done-step v.node.committed (id_of v.node.accepted) v.tasks.waiting) (Ended _)
 
   served-told_commit : (v : View) (p : Id) (id : StateId) → IsServed s v (publications.on_commit s v p id)
   served-told_commit v p id =
       let act : Act = Commit (record { source = p; term = id.term; version = id.version }) in
       let after = doing.after_act s v act in
       Aside v _ _ refl
-      (served-if after _ _ _ (served-then after _ (next.goes_on s) (served-acks_exclusions after) served-goes_on) (Ended after))
+      (served-if after _ _ _ (served-then after _ (next.goes_on s) (served-answers_applied after) served-goes_on) (Ended after))
 
   -- checks
   aside-checks_followers : (v : View) → AreAside (checks.checks_followers s v)
@@ -390,8 +390,8 @@ module _ (s : Settings) where
   served-message v p (message.LeaderAnswer good) = served-if v (doing.follows_node v.mode p) _ _ (Aside _ _ _ refl (Ended _)) (Ended v)
 
   -- a connection that has ended
-  served-leads_anew : (v : View) → IsServed s v (disconnects.leads_anew s v)
-  served-leads_anew v =
+  served-stands_anew : (v : View) → IsServed s v (disconnects.stands_anew s v)
+  served-stands_anew v =
       served-then v _ (λ u. elections.stands_for_election s u (u.node.term + 1)) (served-becomes_candidate v)
       (λ u. served-aside u _ (aside-stands_for_election u (u.node.term + 1)))
 
@@ -400,7 +400,7 @@ module _ (s : Settings) where
   served-loses v p Leader =
       let after : View = moved_all s v (disconnects.drops_follower s p) in
       served-if v _ _ _
-      (Aside _ _ _ refl (Aside _ _ _ refl (served-if after (disconnects.keeps_quorum s after) _ _ (served-goes_on after) (served-leads_anew after))))
+      (Aside _ _ _ refl (Aside _ _ _ refl (served-if after (disconnects.keeps_quorum s after) _ _ (served-goes_on after) (served-stands_anew after))))
       (Ended v)
   served-loses v p (Follower leader) = served-if v (same leader p) _ _ (served-append v _ _ (served-becomes_candidate v) (Aside _ _ _ refl (Ended _))) (Ended v)
 

@@ -22,7 +22,7 @@ use Rattle.master_tasks.specs.declared.waiting.Waiting.{Waiting}
 use Rattle.master_tasks.specs.declared.waiting.Outgoing.{Outgoing}
 use Rattle.master_tasks.specs.Queue.{Tasks}
 use Rattle.master_tasks.specs.Replying.{answer_to}
-use Rattle.master_tasks.specs.Answering.{failed, answers_by, left_by, committed_in, exclusion_done, timed_out, nothing_new, excluded_by, unless_voting, if_late, exclusion_span}
+use Rattle.master_tasks.specs.Answering.{failed, answers_by, left_by, committed_in, applied_in, timed_out, nothing_new, excluded_by, unless_voting, if_late, exclusion_span}
 use Rattle.master_tasks.specs.Processing.{AnsweredAtOnce, Makes, Processed, processing, processing_once, excluding, clearing, refused, and_then, with_next, before_all}
 use Rattle.master_tasks.specs.NextState.{Leader, processed_by, next_answers, tasks_after, is_nothing_new, acks, unacked, value_before}
 use Rattle.policy_model.specs.Queues.{is_for_line, answers_line, is_from, is_to, how_many, AreAmong, NoneWaits, Waits, IsGone, IsQueue}
@@ -146,7 +146,7 @@ late-if committed late (Some ids) a h = answer-if late (answer.ExclusionTimeout 
 late-committed : (id : StateId) → IsLate (committed_in id)
 late-committed id w a h = answer-if (w.processed && is_none (excluded_by w.request.ask)) (answer.Acked id) a refl h
 
-late-done : (committed : List Id) (id : StateId) → IsLate (exclusion_done committed id)
+late-done : (committed : List Id) (id : StateId) → IsLate (applied_in committed id)
 late-done committed id w a h = late-unless committed id w.processed (excluded_by w.request.ask) a h
 
 late-timed_out : (committed : List Id) (now : ℕ) → IsLate (timed_out committed now)
@@ -154,7 +154,7 @@ late-timed_out committed now w a h = late-if committed (nat_le (w.arrived + excl
 
 late-nothing_new : (committed : List Id) (id : StateId) → IsLate (nothing_new committed id)
 late-nothing_new committed id w a h =
-    elim (is_some (excluded_by w.request.ask)) as (λ b. cond b (exclusion_done committed id w) (Some (answer.Acked id)) ≡ Some a → is_for_line a ≡ false) [
+    elim (is_some (excluded_by w.request.ask)) as (λ b. cond b (applied_in committed id w) (Some (answer.Acked id)) ≡ Some a → is_for_line a ≡ false) [
       | true ↦ λ k. late-done committed id w a k
       | false ↦ λ k. answer-if true (answer.Acked id) a refl k
     ] h
@@ -172,8 +172,8 @@ failed-step term ws = subst (λ (left : List Waiting). IsStep ws left (answers_b
 pub committed-step : (id : StateId) (ws : List Waiting) → IsStep ws (left_by (committed_in id) ws) (answers_by (committed_in id) ws)
 committed-step id ws = decided-step (committed_in id) (late-committed id) ws
 
-pub done-step : (committed : List Id) (id : StateId) (ws : List Waiting) → IsStep ws (left_by (exclusion_done committed id) ws) (answers_by (exclusion_done committed id) ws)
-done-step committed id ws = decided-step (exclusion_done committed id) (late-done committed id) ws
+pub done-step : (committed : List Id) (id : StateId) (ws : List Waiting) → IsStep ws (left_by (applied_in committed id) ws) (answers_by (applied_in committed id) ws)
+done-step committed id ws = decided-step (applied_in committed id) (late-done committed id) ws
 
 pub timed_out-step : (committed : List Id) (now : ℕ) (ws : List Waiting) → IsStep ws (left_by (timed_out committed now) ws) (answers_by (timed_out committed now) ws)
 timed_out-step committed now ws = decided-step (timed_out committed now) (late-timed_out committed now) ws

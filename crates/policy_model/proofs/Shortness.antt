@@ -169,8 +169,8 @@ module _ (s : Settings) where
 
   most-makes_state : (v : View) → AtMost 1 2 (next.makes_state s v)
   most-makes_state v =
-      most-append 0 0 1 2 (doing.reply_all s (next_answers (as_master s v.node) v.tasks)) _ (most-quiet 0 0 _ (silent-replies _))
-      (most-silent 1 2 _ _ refl (most-if 1 2 (is_nothing_new (as_master s v.node) v.tasks) _ _ (most-none 1 2) (most-publishes v (moved s v (Notes StateMade)))))
+      most-append 0 0 1 2 (doing.reply_all s (next_answers (master_now s v) v.tasks)) _ (most-quiet 0 0 _ (silent-replies _))
+      (most-silent 1 2 _ _ refl (most-if 1 2 (is_nothing_new (master_now s v) v.tasks) _ _ (most-none 1 2) (most-publishes v (moved s v (Notes StateMade)))))
 
   silent-asks_successor : (v : View) (o : Option Id) → AreSilent (next.asks_successor s v o)
   silent-asks_successor v None = Silent
@@ -293,8 +293,8 @@ module _ (s : Settings) where
       (most-act 0 0 act _ _ (most-quiet 0 0 _ (silent-if _ _ _ (silent-sends_commit (doing.after_act s v act) (publications.is_commit_sent v.publication) p id) Silent)))
       (most-none 1 1)
 
-  silent-acks_exclusions : (v : View) → AreSilent (publications.acks_exclusions s v)
-  silent-acks_exclusions v = silent-append _ _ (silent-replies _) (Also _ _ refl Silent)
+  silent-answers_applied : (v : View) → AreSilent (publications.answers_applied s v)
+  silent-answers_applied v = silent-append _ _ (silent-replies _) (Also _ _ refl Silent)
 
   most-told_commit : (v : View) (p : Id) (id : StateId) → AtMost 2 3 (publications.on_commit s v p id)
   most-told_commit v p id =
@@ -302,7 +302,7 @@ module _ (s : Settings) where
       let after : View = doing.after_act s v act in
       most-act 1 2 act _ _
       (most-if 1 2 (doing.takes s v act && doing.is_leader after.mode) _ _
-      (most-then 0 0 1 2 after _ (next.goes_on s) (most-quiet 0 0 _ (silent-acks_exclusions after)) most-goes_on) (most-none 1 2))
+      (most-then 0 0 1 2 after _ (next.goes_on s) (most-quiet 0 0 _ (silent-answers_applied after)) most-goes_on) (most-none 1 2))
 
   -- ---- checks
 
@@ -383,8 +383,8 @@ module _ (s : Settings) where
   most-message v p (message.LeaderCheck term) = most-quiet 3 6 _ (Also _ _ refl Silent)
   most-message v p (message.LeaderAnswer good) = most-quiet 3 6 _ (silent-if (doing.follows_node v.mode p) _ _ (Also _ _ refl Silent) Silent)
 
-  most-leads_anew : (v : View) → AtMost 0 1 (disconnects.leads_anew s v)
-  most-leads_anew v =
+  most-stands_anew : (v : View) → AtMost 0 1 (disconnects.stands_anew s v)
+  most-stands_anew v =
       most-then 0 1 0 0 v _ (λ u. elections.stands_for_election s u (u.node.term + 1)) (most-becomes_candidate v)
       (λ u. most-quiet 0 0 _ (silent-stands u (u.node.term + 1)))
 
@@ -393,7 +393,7 @@ module _ (s : Settings) where
   most-loses v p Leader =
       most-if 1 2 _ _ _
       (most-then 0 0 1 2 v _ (disconnects.goes_on_with_rest s) (most-quiet 0 0 _ (Also _ _ refl (Also _ _ refl Silent)))
-      (λ u. most-if 1 2 (disconnects.keeps_quorum s u) _ _ (most-goes_on u) (most-more 0 1 1 2 _ (most-leads_anew u) (omega arith) (omega arith))))
+      (λ u. most-if 1 2 (disconnects.keeps_quorum s u) _ _ (most-goes_on u) (most-more 0 1 1 2 _ (most-stands_anew u) (omega arith) (omega arith))))
       (most-none 1 2)
   most-loses v p (Follower leader) = most-if 1 2 (same leader p) _ _ (most-more 0 1 1 2 _ (most-append 0 1 0 0 _ _ (most-becomes_candidate v) (most-quiet 0 0 _ (Also _ _ refl Silent))) (omega arith) (omega arith)) (most-none 1 2)
 

@@ -36,10 +36,10 @@ use Rattle.cluster_state.specs.declared.reply.Answer.{Answer}
 use Rattle.cluster_state.specs.declared.reply.Answer.TheVariants as answer
 use Rattle.cluster_state.specs.declared.reply.Reply.TheVariants as reply
 use Rattle.master_tasks.specs.declared.waiting.Waiting.{Waiting}
-use Rattle.master_tasks.specs.Answering.{answers_by, left_by, failed, timed_out, committed_in, exclusion_done}
+use Rattle.master_tasks.specs.Answering.{answers_by, left_by, failed, timed_out, committed_in, applied_in}
 use Rattle.master_tasks.specs.Queue.{Tasks, most_open, is_full_of, arriving, to_be_added}
 use Rattle.master_tasks.proofs.Counting.{counted, counted_next}
-use Rattle.policy_model.specs.Events.{Mode, Candidate, Leader, Follower, Event, Start, Tick, FrameCame, LineCame, PeerGone, DropCause, Note, Met, Heard, PeersAsked, ElectionOff, ElectionSet, RoundBegun, RoundAnswered, RoundEnded, Joined, FollowersChecked, FollowerAnswered, LeaderChecked, LeaderAnswered, Queued, ExclusionsTimedOut, CommitAcked, ExclusionsAcked, StateMade, HandedOver, PeerLost, LeaderLost, Item, Opens, Begins, Acts, ChangesMode, Drops, Sends, Replies, Notes}
+use Rattle.policy_model.specs.Events.{Mode, Candidate, Leader, Follower, Event, Start, Tick, FrameCame, LineCame, PeerGone, DropCause, Note, Met, Heard, PeersAsked, ElectionOff, ElectionSet, RoundBegun, RoundAnswered, RoundEnded, Joined, FollowersChecked, FollowerAnswered, LeaderChecked, LeaderAnswered, Queued, ExclusionsTimedOut, CommitAcked, AppliedAnswered, StateMade, HandedOver, PeerLost, LeaderLost, Item, Opens, Begins, Acts, ChangesMode, Drops, Sends, Replies, Notes}
 use Rattle.policy_model.specs.Entries.{replies_of}
 use Rattle.policy_model.specs.Parts.{as_master, all_to_be_added, published_id}
 use Rattle.policy_model.specs.Views.{View}
@@ -111,8 +111,8 @@ module _ (s : Settings) where
   note-calm v (Queued conn request) e = absurd (cc)
   note-calm v ExclusionsTimedOut e = fewer (timed_out v.node.committed v.moment) v.tasks.waiting
   note-calm v CommitAcked e = fewer (committed_in (published_id v.node)) v.tasks.waiting
-  note-calm v ExclusionsAcked e = fewer (exclusion_done v.node.committed (id_of v.node.accepted)) v.tasks.waiting
-  note-calm v StateMade e = let all = counted_next (as_master s v.node) v.tasks in omega (arith, all)
+  note-calm v AppliedAnswered e = fewer (applied_in v.node.committed v.node.accepted) v.tasks.waiting
+  note-calm v StateMade e = let all = counted_next (master_now s v) v.tasks in omega (arith, all)
   note-calm v HandedOver e = omega arith
   note-calm v (PeerLost id) e = omega arith
   note-calm v LeaderLost e = omega arith
@@ -238,11 +238,11 @@ module _ (s : Settings) where
   spends-makes_state : (v : View) → Spends s v (next.makes_state s v)
   spends-makes_state v =
       let made : View = moved s v (Notes StateMade) in
-      let all = counted_next (as_master s v.node) v.tasks in
-      let rest : Spends s made (if is_nothing_new (as_master s v.node) v.tasks then [] else next.publishes s v made) =
-      spends-if made (is_nothing_new (as_master s v.node) v.tasks) _ _ (spends-none made) (spends-publishes v made)
+      let all = counted_next (master_now s v) v.tasks in
+      let rest : Spends s made (if is_nothing_new (master_now s v) v.tasks then [] else next.publishes s v made) =
+      spends-if made (is_nothing_new (master_now s v) v.tasks) _ _ (spends-none made) (spends-publishes v made)
       in
-      spends-replies v (next_answers (as_master s v.node) v.tasks) _ (omega (arith, all, rest.all))
+      spends-replies v (next_answers (master_now s v) v.tasks) _ (omega (arith, all, rest.all))
 
   calm-asks_successor : (v : View) (o : Option Id) → AreCalm (next.asks_successor s v o)
   calm-asks_successor v None = Silent
@@ -372,10 +372,10 @@ module _ (s : Settings) where
       (spends-if after (publications.is_commit_sent v.publication) _ _ (spends-calm after _ (Also _ _ refl Silent)) (spends-first_commit after id)) (spends-none after)))
       (spends-none v)
 
-  spends-acks_exclusions : (v : View) → Spends s v (publications.acks_exclusions s v)
-  spends-acks_exclusions v =
-      let decide : Waiting → Option Answer = exclusion_done v.node.committed (id_of v.node.accepted) in
-      spends-replies v (answers_by decide v.tasks.waiting) (Notes ExclusionsAcked ∷ []) (let all = counted decide v.tasks.waiting in omega (arith, all))
+  spends-answers_applied : (v : View) → Spends s v (publications.answers_applied s v)
+  spends-answers_applied v =
+      let decide : Waiting → Option Answer = applied_in v.node.committed v.node.accepted in
+      spends-replies v (answers_by decide v.tasks.waiting) (Notes AppliedAnswered ∷ []) (let all = counted decide v.tasks.waiting in omega (arith, all))
 
   spends-told_commit : (v : View) (p : Id) (id : StateId) → Spends s v (publications.on_commit s v p id)
   spends-told_commit v p id =
@@ -383,7 +383,7 @@ module _ (s : Settings) where
       let after : View = doing.after_act s v act in
       spends-item v (doing.act_now s v act) _ refl
       (spends-if after (doing.takes s v act && doing.is_leader after.mode) _ _
-      (spends-then after _ (next.goes_on s) (spends-acks_exclusions after) spends-goes_on) (spends-none after))
+      (spends-then after _ (next.goes_on s) (spends-answers_applied after) spends-goes_on) (spends-none after))
 
   -- ---- checks
 
@@ -455,8 +455,8 @@ module _ (s : Settings) where
   spends-message v p (message.LeaderCheck term) = spends-calm v _ (Also _ _ refl Silent)
   spends-message v p (message.LeaderAnswer good) = spends-calm v _ (calm-if (doing.follows_node v.mode p) _ _ (Also _ _ refl Silent) Silent)
 
-  spends-leads_anew : (v : View) → Spends s v (disconnects.leads_anew s v)
-  spends-leads_anew v =
+  spends-stands_anew : (v : View) → Spends s v (disconnects.stands_anew s v)
+  spends-stands_anew v =
       spends-then v _ (λ u. elections.stands_for_election s u (u.node.term + 1)) (spends-becomes_candidate v)
       (λ u. spends-calm u _ (calm-stands u (u.node.term + 1)))
 
@@ -465,7 +465,7 @@ module _ (s : Settings) where
   spends-loses v p Leader =
       spends-if v _ _ _
       (spends-then v _ (disconnects.goes_on_with_rest s) (spends-calm v _ (Also _ _ refl (Also _ _ refl Silent)))
-      (λ u. spends-if u (disconnects.keeps_quorum s u) _ _ (spends-goes_on u) (spends-leads_anew u)))
+      (λ u. spends-if u (disconnects.keeps_quorum s u) _ _ (spends-goes_on u) (spends-stands_anew u)))
       (spends-none v)
   spends-loses v p (Follower leader) = spends-if v (same leader p) _ _ (spends-append v _ _ (spends-becomes_candidate v) (spends-calm _ _ (Also _ _ refl Silent))) (spends-none v)
 

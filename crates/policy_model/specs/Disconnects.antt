@@ -21,11 +21,11 @@ module _ (s : Settings) where
 
   -- A leader without a quorum could commit nothing: it leads no more, and asks all for their votes at once. Whom it reaches, it may lead
   -- again in the next term; where it reaches nobody, nobody hears of that.
-  abbrev pub leads_anew : View → List Item
-  leads_anew v = then_rule s v (becomes_candidate s v) (λ u. stands_for_election s u (u.node.term + 1))
+  abbrev pub stands_anew : View → List Item
+  stands_anew v = then_rule s v (becomes_candidate s v) (λ u. stands_for_election s u (u.node.term + 1))
 
   abbrev pub goes_on_with_rest : View → List Item
-  goes_on_with_rest v = if keeps_quorum v then goes_on s v else leads_anew v
+  goes_on_with_rest v = if keeps_quorum v then goes_on s v else stands_anew v
 
   -- a follower that is watched is to be a member no more, and is watched no more
   abbrev pub drops_follower : Id → List Item

@@ -43,7 +43,7 @@ pub data Note : Type 0 where
   -- the requests that are due are answered: exclusions that waited too long, what a commit has, exclusions that are done
   ExclusionsTimedOut : Note
   CommitAcked : Note
-  ExclusionsAcked : Note
+  AppliedAnswered : Note
   -- the next state was made of all that was queued
   StateMade : Note
   HandedOver : Note

@@ -1,16 +1,20 @@
 -- For the contracts inside: the laws of lives that follow the policy, as statements.
-use Rattle.std.specs.Prelude.{◌≡◌, ℕ, true, false, ◌&&◌, List, [], ◌∷◌, find, if◌then◌else◌}
+use Rattle.std.specs.Prelude.{◌≡◌, ℕ, Bool, true, false, ◌&&◌, List, [], ◌∷◌, find, if◌then◌else◌}
 use Rattle.voting_config.specs.Ids.{Id, has, same_config, with_room}
 use Rattle.cluster_state.specs.declared.state.StateId.{StateId}
 use Rattle.cluster_state.specs.declared.state.Kept.{Kept}
 use Rattle.cluster_state.specs.declared.state.ClusterState.{ClusterState}
+use Rattle.cluster_state.specs.declared.state.ClusterValue.{ClusterValue}
+use Rattle.cluster_state.specs.declared.request.Ask.TheVariants as ask
+use Rattle.cluster_state.specs.declared.reply.Answer.TheVariants as answer
 use Rattle.world_model.specs.declared.acts.Act.TheVariants.{Open}
 use Rattle.world_model.specs.Histories.{IsLocal, ContinuesUnlessFirst}
 use Rattle.fault_checks.specs.Followers.{ids_of}
 use Rattle.world_model.specs.Replies.{elects}
-use Rattle.master_tasks.specs.declared.waiting.Waiting.{Waiting}
-use Rattle.master_tasks.specs.NextState.{may_move, sends_anew}
+use Rattle.master_tasks.specs.Processing.{processing, AnsweredAtOnce}
+use Rattle.master_tasks.specs.NextState.{may_reconfigure, makes_anew}
 use Rattle.policy_model.specs.declared.settings.Settings.{Settings}
+use Rattle.policy_model.specs.Parts.{policy_at}
 use Rattle.policy_model.specs.Events.{Event, Begins, Notes, ElectionOff, acts_of}
 use Rattle.policy_model.specs.Entries.{Life, Opened, Lived, Did, log_of}
 use Rattle.policy_model.specs.Views.{View, view_of}
@@ -53,7 +57,7 @@ pub record IsWithoutVotingOnly (s : Settings) : Type 0 where
 abbrev pub LawNoVotingOnly : Type 0
 LawNoVotingOnly = (s : Settings) → s.voting_only ≡ [] → IsWithoutVotingOnly s
 
--- the six rules that look at the profile are those of a policy that knows no second one
+-- the eight rules that look at the profile are those of a policy that knows no second one
 pub record IsFirstProfile (s : Settings) : Type 0 where
   pub checked : (v : View) (p : Id)
       → follows_checker s v p
@@ -62,8 +66,11 @@ pub record IsFirstProfile (s : Settings) : Type 0 where
   pub given_up : (v : View) → gives_up s v ≡ has_timed_out v.publication v.moment
   pub led : (v : View) → leads_on s v ≡ makes_state s v
   pub wanted : (term : ℕ) (accepted : ClusterState) (committed : List Id)
-      → may_move term accepted committed s.policy ≡ same_config committed accepted.config
-  pub not_anew : (additions : List Id) (waiting : List Waiting) → sends_anew s.policy additions waiting ≡ false
+      → may_reconfigure term accepted committed s.policy ≡ same_config committed accepted.config
+  pub not_anew : (additions : List Id) (anew : Bool) → makes_anew s.policy additions anew ≡ false
+  pub shown : (accepted : ClusterState) (value : ClusterValue)
+      → processing s.policy.second accepted value ask.State ≡ AnsweredAtOnce (answer.State accepted)
+  pub led_by : (led_from now : ℕ) → policy_at s led_from now ≡ s.policy
   pub kept : (v : View) → keeps_quorum s v ≡ elects v.node (with_room (ids_of v.followers.watched) s.me)
 
 -- so it is where the settings name the first profile

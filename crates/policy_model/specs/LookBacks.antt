@@ -15,10 +15,10 @@ use Rattle.publication.specs.Publications.{Publication}
 use Rattle.fault_checks.specs.Followers.{Followers, no_state}
 use Rattle.fault_checks.specs.Leaders.{LeaderCheck}
 use Rattle.master_tasks.specs.Queue.{Tasks, no_tasks, to_be_removed}
-use Rattle.master_tasks.specs.Answering.{without_answered, timed_out, committed_in, exclusion_done}
-use Rattle.master_tasks.specs.NextState.{tasks_after}
+use Rattle.master_tasks.specs.Answering.{without_answered, timed_out, committed_in, applied_in}
+use Rattle.master_tasks.specs.NextState.{Leader as NextMaster, tasks_after}
 use Rattle.policy_model.specs.declared.settings.Settings.{Settings}
-use Rattle.policy_model.specs.Events.{Mode, Candidate, Leader, Tick, Log, NoItems, And, acts_of, Opens, Begins, Acts, ChangesMode, Drops, Notes, Met, Heard, PeersAsked, ElectionOff, ElectionSet, RoundBegun, RoundAnswered, RoundEnded, Joined, FollowersChecked, FollowerAnswered, LeaderChecked, LeaderAnswered, Queued, ExclusionsTimedOut, CommitAcked, ExclusionsAcked, StateMade, HandedOver, PeerLost, LeaderLost}
+use Rattle.policy_model.specs.Events.{Mode, Candidate, Leader, Tick, Log, NoItems, And, acts_of, Opens, Begins, Acts, ChangesMode, Drops, Notes, Met, Heard, PeersAsked, ElectionOff, ElectionSet, RoundBegun, RoundAnswered, RoundEnded, Joined, FollowersChecked, FollowerAnswered, LeaderChecked, LeaderAnswered, Queued, ExclusionsTimedOut, CommitAcked, AppliedAnswered, StateMade, HandedOver, PeerLost, LeaderLost}
 use Rattle.policy_model.specs.Parts.{last_moment, handover_interval, no_peers, met, peers_asked, heard, answers_forgotten, peer_lost, search_held, next_attempt, first_deadline, next_deadline, round_begun, round_answered, published_at, responded, finished, no_followers, watched, state_finished, followers_ticked, follower_answered, follower_lost, check_from, leader_ticked, leader_answered, arrived, all_to_be_added, as_master, published_id}
 
 -- what the seven acts know
@@ -45,6 +45,13 @@ moment_of NoItems = 0
 moment_of (And l (Opens found)) = 0
 moment_of (And l (Begins (Tick now word))) = max (moment_of l) (min now last_moment)
 moment_of (And l i) = moment_of l
+
+-- the moment at which the node became a leader last, in ms
+abbrev pub led_from_of : Log → ℕ
+led_from_of NoItems = 0
+led_from_of (And l (Opens found)) = 0
+led_from_of (And l (ChangesMode Leader term)) = moment_of l
+led_from_of (And l i) = led_from_of l
 
 -- the peers in the order in which they were met, each with its last answer since the node became a candidate, and when they are to be asked
 abbrev pub finder_of : Settings → Log → PeerFinder
@@ -151,6 +158,10 @@ leader_check_of (And l (Notes LeaderChecked)) = leader_ticked (leader_check_of l
 leader_check_of (And l (Notes (LeaderAnswered good))) = leader_answered (leader_check_of l) good (moment_of l)
 leader_check_of (And l i) = leader_check_of l
 
+-- the node as the master that makes the next state
+abbrev pub master_of : Settings → Log → NextMaster
+master_of s l = as_master s (led_from_of l) (moment_of l) (node_of l)
+
 -- the requests that came and are not answered; who is to become a member and who to be none, since the last state was made
 abbrev pub tasks_of : Settings → Log → Tasks
 tasks_of s NoItems = no_tasks
@@ -160,9 +171,9 @@ tasks_of s (And l (Notes (Joined ids))) = all_to_be_added (tasks_of s l) ids
 tasks_of s (And l (Drops member cause)) = to_be_removed (tasks_of s l) member
 tasks_of s (And l (Notes ExclusionsTimedOut)) = without_answered (timed_out (node_of l).committed (moment_of l)) (tasks_of s l)
 tasks_of s (And l (Notes CommitAcked)) = without_answered (committed_in (published_id (node_of l))) (tasks_of s l)
-tasks_of s (And l (Notes ExclusionsAcked)) =
-    without_answered (exclusion_done (node_of l).committed (id_of (node_of l).accepted)) (tasks_of s l)
-tasks_of s (And l (Notes StateMade)) = tasks_after (as_master s (node_of l)) (tasks_of s l)
+tasks_of s (And l (Notes AppliedAnswered)) =
+    without_answered (applied_in (node_of l).committed (node_of l).accepted) (tasks_of s l)
+tasks_of s (And l (Notes StateMade)) = tasks_after (master_of s l) (tasks_of s l)
 tasks_of s (And l (ChangesMode Candidate term)) = no_tasks
 tasks_of s (And l i) = tasks_of s l
 

@@ -10,13 +10,13 @@ use Rattle.cluster_state.specs.States.{id_of}
 use Rattle.world_model.specs.Moves.{node_state_after, is_opening}
 use Rattle.fault_checks.specs.Followers.{no_state}
 use Rattle.master_tasks.specs.Queue.{no_tasks, to_be_removed}
-use Rattle.master_tasks.specs.Answering.{without_answered, timed_out, committed_in, exclusion_done}
+use Rattle.master_tasks.specs.Answering.{without_answered, timed_out, committed_in, applied_in}
 use Rattle.master_tasks.specs.NextState.{tasks_after}
 use Rattle.policy_model.specs.declared.settings.Settings.{Settings}
-use Rattle.policy_model.specs.Events.{Mode, Candidate, Leader, Follower, Event, Start, Tick, FrameCame, LineCame, PeerGone, Note, Met, Heard, PeersAsked, ElectionOff, ElectionSet, RoundBegun, RoundAnswered, RoundEnded, Joined, FollowersChecked, FollowerAnswered, LeaderChecked, LeaderAnswered, Queued, ExclusionsTimedOut, CommitAcked, ExclusionsAcked, StateMade, HandedOver, PeerLost, LeaderLost, Item, Opens, Begins, Acts, ChangesMode, Drops, Sends, Replies, Notes, Log, And}
-use Rattle.policy_model.specs.Parts.{last_moment, handover_interval, no_peers, met, peers_asked, heard, answers_forgotten, peer_lost, search_held, next_attempt, first_deadline, next_deadline, round_begun, round_answered, published_at, responded, finished, no_followers, watched, state_finished, followers_ticked, follower_answered, follower_lost, check_from, leader_ticked, leader_answered, arrived, all_to_be_added, as_master, published_id}
+use Rattle.policy_model.specs.Events.{Mode, Candidate, Leader, Follower, Event, Start, Tick, FrameCame, LineCame, PeerGone, Note, Met, Heard, PeersAsked, ElectionOff, ElectionSet, RoundBegun, RoundAnswered, RoundEnded, Joined, FollowersChecked, FollowerAnswered, LeaderChecked, LeaderAnswered, Queued, ExclusionsTimedOut, CommitAcked, AppliedAnswered, StateMade, HandedOver, PeerLost, LeaderLost, Item, Opens, Begins, Acts, ChangesMode, Drops, Sends, Replies, Notes, Log, And}
+use Rattle.policy_model.specs.Parts.{last_moment, handover_interval, no_peers, met, peers_asked, heard, answers_forgotten, peer_lost, search_held, next_attempt, first_deadline, next_deadline, round_begun, round_answered, published_at, responded, finished, no_followers, watched, state_finished, followers_ticked, follower_answered, follower_lost, check_from, leader_ticked, leader_answered, arrived, all_to_be_added, published_id}
 use Rattle.policy_model.specs.LookBacks.{sends_one, yields}
-use Rattle.policy_model.specs.Views.{View, view_of}
+use Rattle.policy_model.specs.Views.{View, view_of, master_now}
 
 -- a node that was just opened, and found this record
 abbrev pub opened : Settings → Kept → View
@@ -25,6 +25,7 @@ opened s found = record {
   mode = Candidate;
   leader_term = 0;
   moment = 0;
+  led_from = 0;
   finder = no_peers s.me;
   deadline = None;
   lost_leader = false;
@@ -82,7 +83,7 @@ mode_changed v Candidate term = record v {
   leader_check = None;
   tasks = no_tasks;
 }
-mode_changed v Leader term = record v { mode = Leader; leader_term = term; leader_check = None }
+mode_changed v Leader term = record v { mode = Leader; leader_term = term; led_from = v.moment; leader_check = None }
 mode_changed v (Follower leader) term = record v { mode = Follower leader; leader_check = check_from (Follower leader) v.moment }
 
 abbrev pub noted : Settings → View → Note → View
@@ -106,8 +107,8 @@ noted s v (LeaderAnswered good) = record v { leader_check = leader_answered v.le
 noted s v (Queued conn request) = record v { tasks = arrived v.tasks conn v.moment request }
 noted s v ExclusionsTimedOut = record v { tasks = without_answered (timed_out v.node.committed v.moment) v.tasks }
 noted s v CommitAcked = record v { tasks = without_answered (committed_in (published_id v.node)) v.tasks }
-noted s v ExclusionsAcked = record v { tasks = without_answered (exclusion_done v.node.committed (id_of v.node.accepted)) v.tasks }
-noted s v StateMade = record v { tasks = tasks_after (as_master s v.node) v.tasks }
+noted s v AppliedAnswered = record v { tasks = without_answered (applied_in v.node.committed v.node.accepted) v.tasks }
+noted s v StateMade = record v { tasks = tasks_after (master_now s v) v.tasks }
 noted s v HandedOver = record v { handover_due = v.moment + handover_interval }
 noted s v LeaderLost = record v { finder = search_held v.finder v.moment; lost_leader = true }
 noted s v (PeerLost id) = record v { finder = peer_lost v.finder id v.moment; followers = follower_lost v.followers id }
@@ -174,7 +175,7 @@ view_of-And s l (Notes (LeaderAnswered good)) h = refl
 view_of-And s l (Notes (Queued conn request)) h = refl
 view_of-And s l (Notes ExclusionsTimedOut) h = refl
 view_of-And s l (Notes CommitAcked) h = refl
-view_of-And s l (Notes ExclusionsAcked) h = refl
+view_of-And s l (Notes AppliedAnswered) h = refl
 view_of-And s l (Notes StateMade) h = refl
 view_of-And s l (Notes HandedOver) h = refl
 view_of-And s l (Notes (PeerLost id)) h = refl

@@ -15,8 +15,7 @@ use Rattle.world_model.specs.declared.acts.Act.{Act}
 use Rattle.world_model.specs.declared.acts.Act.TheVariants.{Value}
 use Rattle.policy_model.specs.declared.settings.Settings.{Settings}
 use Rattle.policy_model.specs.Events.{Item, Notes, StateMade, HandedOver}
-use Rattle.policy_model.specs.Parts.{as_master}
-use Rattle.policy_model.specs.Views.{View}
+use Rattle.policy_model.specs.Views.{View, master_now}
 use Rattle.policy_model.specs.Moves.{moved}
 use Rattle.policy_model.specs.Doing.{is_leader, is_voting_only, is_second, act_now, after_act, takes, send_all, reply_all, may_win, becomes_candidate}
 
@@ -45,10 +44,10 @@ is_hopeless v (Some p) = not p.finished && not (commits v.node (may_respond p v.
 
 module _ (s : Settings) where
   abbrev pub value_now : View → ClusterValue
-  value_now v = next_value (as_master s v.node) v.tasks
+  value_now v = next_value (master_now s v) v.tasks
 
   abbrev pub config_now : View → List Id
-  config_now v = next_config (as_master s v.node) v.tasks
+  config_now v = next_config (master_now s v) v.tasks
 
   abbrev pub value_act : View → Act
   value_act v = Value (v.node.accepted.version + 1) (config_now v) (value_now v)
@@ -75,9 +74,9 @@ module _ (s : Settings) where
   -- what can be answered is answered, and a state is published where something is new
   abbrev pub makes_state : View → List Item
   makes_state v =
-      reply_all s (next_answers (as_master s v.node) v.tasks)
+      reply_all s (next_answers (master_now s v) v.tasks)
       ++ Notes StateMade
-      ∷ (if is_nothing_new (as_master s v.node) v.tasks then [] else publishes v (moved s v (Notes StateMade)))
+      ∷ (if is_nothing_new (master_now s v) v.tasks then [] else publishes v (moved s v (Notes StateMade)))
 
   -- the least responder that is a voter and not voting-only is asked to be elected
   abbrev pub successor_of : View → Option Id

@@ -1,16 +1,17 @@
 -- Part of the statement: what is made of the parts of a node, in the words of each part.
-use Rattle.std.specs.Prelude.{ℕ, ◌+◌, ◌^◌, min, Bool, Option, None, Some, List, [], ◌∷◌, if◌then◌else◌}
+use Rattle.std.specs.Prelude.{ℕ, ◌+◌, ◌^◌, min, Bool, not, ◌&&◌, ◌||◌, Option, None, Some, List, [], ◌∷◌, if◌then◌else◌}
 use Rattle.voting_config.specs.Ids.{Id, without_id}
 use Rattle.cluster_state.specs.declared.state.StateId.{StateId}
 use Rattle.cluster_state.specs.declared.request.Request.{Request}
 use Rattle.world_model.specs.NodeState.{NodeState}
 use Rattle.cluster_state.specs.States.{id_of}
-use Rattle.election_clock.specs.Delays.{delay_of}
+use Rattle.election_clock.specs.Delays.{delay_of, has_passed}
 use Rattle.peer_finder.specs.Peers.{PeerFinder, finder_of, after as finder_after, Started as FinderStarted, Added, Asked, Answered as PeerAnswered, AnswersForgotten, Disconnected as PeerDisconnected, Held}
 use Rattle.pre_vote.specs.Rounds.{Round, started, answered}
 use Rattle.publication.specs.Publications.{Publication, publication_of, after as publication_after, Started as PublicationStarted, Responded, CommitSent, Finished as PublicationFinished}
 use Rattle.fault_checks.specs.Followers.{Followers, followers_of, after as followers_after, Started as FollowersStarted, Watched, Finished as StateFinished, Answered as FollowerAnswered, Ticked, Disconnected as FollowerDisconnected}
 use Rattle.fault_checks.specs.Leaders.{LeaderCheck, leader_check_of, after_leader, LeaderStarted, LeaderAnswered, LeaderTicked}
+use Rattle.master_tasks.specs.declared.policy.Policy.{Policy}
 use Rattle.master_tasks.specs.Queue.{Tasks, arriving, offered, to_be_added}
 use Rattle.master_tasks.specs.NextState.{Leader as NextMaster, leader_of as next_master}
 use Rattle.policy_model.specs.declared.settings.Settings.{Settings}
@@ -141,9 +142,17 @@ abbrev pub all_to_be_added : Tasks → List Id → Tasks
 all_to_be_added t [] = t
 all_to_be_added t (id ∷ ids) = all_to_be_added (to_be_added t id) ids
 
--- the node as the master that makes the next state
-abbrev pub as_master : Settings → NodeState → NextMaster
-as_master s node = next_master s.me node.term node.accepted node.committed node.join_votes s.policy
+-- for how long a leader of the second profile takes no voter out for being away, in ms
+abbrev pub shrink_delay : ℕ
+shrink_delay = 10000
+
+-- by which policy a node leads that became a leader at one moment, at another
+abbrev pub policy_at : Settings → ℕ → ℕ → Policy
+policy_at s led_from now = record s.policy { shrink = s.policy.shrink && (not s.policy.second || has_passed led_from shrink_delay now) }
+
+-- the node as the master that makes the next state, since it became leader at one moment, at another
+abbrev pub as_master : Settings → ℕ → ℕ → NodeState → NextMaster
+as_master s led_from now node = next_master s.me node.term node.accepted node.committed node.join_votes (policy_at s led_from now)
 
 -- the id of the last published state
 abbrev pub published_id : NodeState → StateId

@@ -5,13 +5,13 @@ use Rattle.cluster_state.specs.declared.state.ClusterState.{ClusterState}
 use Rattle.cluster_state.specs.declared.state.StateId.{StateId}
 use Rattle.wire_frames.specs.declared.frame.WireMessage.TheVariants as message
 use Rattle.publication.specs.Publications.{Publication}
-use Rattle.master_tasks.specs.Answering.{answers_by, committed_in, exclusion_done}
+use Rattle.master_tasks.specs.Answering.{answers_by, committed_in, applied_in}
 use Rattle.world_model.specs.declared.acts.Act.TheVariants.{Publish, Response, Commit}
 use Rattle.world_model.specs.declared.acts.ActReply.{ActReply}
 use Rattle.world_model.specs.declared.acts.ActReply.TheVariants.{Taken, Refused, Stopped}
 use Rattle.cluster_state.specs.States.{id_of}
 use Rattle.policy_model.specs.declared.settings.Settings.{Settings}
-use Rattle.policy_model.specs.Events.{Item, Notes, CommitAcked, ExclusionsAcked}
+use Rattle.policy_model.specs.Events.{Item, Notes, CommitAcked, AppliedAnswered}
 use Rattle.policy_model.specs.Parts.{published_id}
 use Rattle.policy_model.specs.Views.{View}
 use Rattle.policy_model.specs.Doing.{is_leader, then_rule, reply_now, act_now, after_act, takes, send, send_all, reply_all, raises_term, becomes_follower}
@@ -61,13 +61,13 @@ module _ (s : Settings) where
       ∷ (if commits_now (reply_now s v act) then sends_commit (after_act s v act) (is_commit_sent v.publication) p id else [])
       else []
 
-  -- the leader's publication is finished: exclusions that are done are acknowledged, and the leader goes on
-  abbrev pub acks_exclusions : View → List Item
-  acks_exclusions v =
-      reply_all s (answers_by (exclusion_done v.node.committed (id_of v.node.accepted)) v.tasks.waiting) ++ Notes ExclusionsAcked ∷ []
+  -- the leader's publication is finished: exclusions that are done are acknowledged, who was to be shown the state is, and the leader goes on
+  abbrev pub answers_applied : View → List Item
+  answers_applied v =
+      reply_all s (answers_by (applied_in v.node.committed v.node.accepted) v.tasks.waiting) ++ Notes AppliedAnswered ∷ []
 
   abbrev pub on_commit : View → Id → StateId → List Item
   on_commit v p id =
       let act = Commit (record { source = p; term = id.term; version = id.version }) in
       let after = after_act s v act in
-      act_now s v act ∷ (if takes s v act && is_leader after.mode then then_rule s after (acks_exclusions after) (goes_on s) else [])
+      act_now s v act ∷ (if takes s v act && is_leader after.mode then then_rule s after (answers_applied after) (goes_on s) else [])

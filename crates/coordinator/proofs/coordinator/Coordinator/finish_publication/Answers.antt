@@ -6,12 +6,12 @@ use Rattle.coordinator.proofs.coordinator.Coordinator.finish_publication.Goals a
 
 pub go_on-requires-clause-ready : goal.go_on-requires-clause-ready
 go_on-requires-clause-ready g c =
-    ready_then g.K.Keeper c.args.self.now c.ack_exclusions.new.self _ c.requires.ready c.ack_exclusions.ensures.does.goes
+    ready_then g.K.Keeper c.args.self.now c.answer_applied.new.self _ c.requires.ready c.answer_applied.ensures.does.goes
 
 pub go_on-requires-clause-plan : goal.go_on-requires-clause-plan
 go_on-requires-clause-plan g c =
-    planned_there g.K.Keeper c.args.self.now c.ack_exclusions.new.self _ c.args.plan.now (λ s v. v) c.ack_exclusions.ensures.does.goes c.requires.plan
+    planned_there g.K.Keeper c.args.self.now c.answer_applied.new.self _ c.args.plan.now (λ s v. v) c.answer_applied.ensures.does.goes c.requires.plan
 
 pub returns : goal.returns
 returns g c =
-    record { does = ends_rule g.K.Keeper c.args.self.now c.ack_exclusions.new.self c.go_on.new.self _ _ _ _ goes_on true c.ack_exclusions.ensures.does c.go_on.ensures.does }
+    record { does = ends_rule g.K.Keeper c.args.self.now c.answer_applied.new.self c.go_on.new.self _ _ _ _ goes_on true c.answer_applied.ensures.does c.go_on.ensures.does }
