@@ -32,11 +32,11 @@ counted_then : (p : Processed) (w : Waiting) (step : Processing) (n : ℕ) → l
 counted_then p w (AnsweredAtOnce a) n h = let longer = length-append p.answers (answer_to w a ∷ []) in omega (arith, h, longer)
 counted_then p w (Makes v) n h = let longer = length-append p.waiting (record w { processed = true } ∷ []) in omega (arith, h, longer)
 
-counted_all : (accepted : ClusterState) (p : Processed) (ws : List Waiting) (n : ℕ) → length p.answers + length p.waiting ≡ n
-    → length (fold (with_next accepted) p ws).answers + length (fold (with_next accepted) p ws).waiting ≡ n + length ws
-counted_all accepted p [] n h = omega (arith, h)
-counted_all accepted p (w ∷ ws) n h =
-    let rest = counted_all accepted (with_next accepted p w) ws (suc n) (counted_then p w (processing_once accepted p.value w) n h) in
+counted_all : (second : Bool) (accepted : ClusterState) (p : Processed) (ws : List Waiting) (n : ℕ) → length p.answers + length p.waiting ≡ n
+    → length (fold (with_next second accepted) p ws).answers + length (fold (with_next second accepted) p ws).waiting ≡ n + length ws
+counted_all second accepted p [] n h = omega (arith, h)
+counted_all second accepted p (w ∷ ws) n h =
+    let rest = counted_all second accepted (with_next second accepted p w) ws (suc n) (counted_then p w (processing_once second accepted p.value w) n h) in
     omega (arith, rest)
 
 counted_if : (l : Leader) (p : Processed) (b : Bool)
@@ -52,5 +52,5 @@ unfolding next_answers tasks_after processed_by
 counted_next l t =
     let whole : 0 + length t.waiting ≡ length t.waiting = omega arith in
     counted_if l (processed_by l t) (is_nothing_new l t)
-    ∙ counted_all l.accepted (before_all (value_before l.me t l.accepted.value)) t.waiting 0 refl
+    ∙ counted_all l.policy.second l.accepted (before_all (value_before l.me t l.accepted.value)) t.waiting 0 refl
     ∙ whole

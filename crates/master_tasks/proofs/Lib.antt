@@ -1,3 +1,4 @@
+mod Applying
 pub mod Settling
 pub mod Stepping
 pub mod Making

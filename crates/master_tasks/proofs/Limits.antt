@@ -106,34 +106,35 @@ fits_clear : (v : ClusterValue) (r : Result (Unit {0}) StillMember) → Fits v �
 fits_clear v (Ok u) f = record { fit = record { exclusions = omega arith; settings = f.fit.settings }; ascending = f.ascending }
 fits_clear v (Err e) f = f
 
-fits_ask : (accepted : ClusterState) (v : ClusterValue) (a : Ask) → Fits v → bad_setting_of a ≡ None → Fits (value_after v (processing accepted v a))
-fits_ask accepted v (ask.Put key text) f good = fits_put v (key, text) f (IsFitSetting-bad_length key text good)
-fits_ask accepted v (ask.Remove key) f good = fits_remove v key f
-fits_ask accepted v (ask.Exclude ids) f good = fits_exclude v (added_of v.exclusions ids) f (few_added v.exclusions ids)
-fits_ask accepted v (ask.Clear wait) f good = fits_clear v (cleared_of v.exclusions v.members wait) f
-fits_ask accepted v ask.State f good = f
+fits_ask : (second : Bool) (accepted : ClusterState) (v : ClusterValue) (a : Ask) → Fits v → bad_setting_of a ≡ None → Fits (value_after v (processing second accepted v a))
+fits_ask second accepted v (ask.Put key text) f good = fits_put v (key, text) f (IsFitSetting-bad_length key text good)
+fits_ask second accepted v (ask.Remove key) f good = fits_remove v key f
+fits_ask second accepted v (ask.Exclude ids) f good = fits_exclude v (added_of v.exclusions ids) f (few_added v.exclusions ids)
+fits_ask second accepted v (ask.Clear wait) f good = fits_clear v (cleared_of v.exclusions v.members wait) f
+fits_ask second accepted v ask.State f good =
+    elim second as (λ b. Fits (value_after v (if b then Makes v else AnsweredAtOnce (answer.State accepted)))) [ true ↦ f | false ↦ f ]
 
-fits_once : (accepted : ClusterState) (v : ClusterValue) (w : Waiting) → Fits v → bad_setting_of w.request.ask ≡ None → Fits (value_after v (processing_once accepted v w))
-fits_once accepted v w f good =
-    elim w.processed as (λ b. Fits (value_after v (if b then Makes v else processing accepted v w.request.ask))) [
+fits_once : (second : Bool) (accepted : ClusterState) (v : ClusterValue) (w : Waiting) → Fits v → bad_setting_of w.request.ask ≡ None → Fits (value_after v (processing_once second accepted v w))
+fits_once second accepted v w f good =
+    elim w.processed as (λ b. Fits (value_after v (if b then Makes v else processing second accepted v w.request.ask))) [
       | true ↦ f
-      | false ↦ fits_ask accepted v w.request.ask f good
+      | false ↦ fits_ask second accepted v w.request.ask f good
     ]
 
 pub value_then : (p : Processed) (w : Waiting) (step : Processing) → value_after p.value step ≡ (and_then p w step).value
 value_then p w (AnsweredAtOnce a) = refl
 value_then p w (Makes v) = refl
 
-fits_all : (accepted : ClusterState) (p : Processed) (ws : List Waiting) → Fits p.value → HaveGoodSettings ws → Fits (fold (with_next accepted) p ws).value
-fits_all accepted p [] f good = f
-fits_all accepted p (w ∷ ws) f good =
+fits_all : (second : Bool) (accepted : ClusterState) (p : Processed) (ws : List Waiting) → Fits p.value → HaveGoodSettings ws → Fits (fold (with_next second accepted) p ws).value
+fits_all second accepted p [] f good = f
+fits_all second accepted p (w ∷ ws) f good =
     let P : ClusterValue → Type 0 = Fits in
-    fits_all accepted (with_next accepted p w) ws (subst P (value_then p w (processing_once accepted p.value w)) (fits_once accepted p.value w f good.0)) good.1
+    fits_all second accepted (with_next second accepted p w) ws (subst P (value_then p w (processing_once second accepted p.value w)) (fits_once second accepted p.value w f good.0)) good.1
 
 pub fits_next : (l : Leader) (t : Tasks) → IsFitValue l.accepted.value → ascends (keys l.accepted.value.settings) ≡ true → HaveGoodSettings t.waiting → IsFitValue (next_value l t)
 unfolding processed_by next_value
 fits_next l t fit up good =
-    (fits_all l.accepted (before_all (value_before l.me t l.accepted.value)) t.waiting
+    (fits_all l.policy.second l.accepted (before_all (value_before l.me t l.accepted.value)) t.waiting
     record { fit = record { exclusions = fit.exclusions; settings = fit.settings }; ascending = up } good).fit
 
 -- those who wait afterwards have good settings too
@@ -150,14 +151,14 @@ good_then : (p : Processed) (w : Waiting) (step : Processing) → HaveGoodSettin
 good_then p w (AnsweredAtOnce a) h good = h
 good_then p w (Makes v) h good = each_append _ p.waiting (record w { processed = true } ∷ []) h (good, tt)
 
-pub good_all : (accepted : ClusterState) (p : Processed) (ws : List Waiting) → HaveGoodSettings p.waiting → HaveGoodSettings ws → HaveGoodSettings (fold (with_next accepted) p ws).waiting
-good_all accepted p [] h good = h
-good_all accepted p (w ∷ ws) h good = good_all accepted (with_next accepted p w) ws (good_then p w (processing_once accepted p.value w) h good.0) good.1
+pub good_all : (second : Bool) (accepted : ClusterState) (p : Processed) (ws : List Waiting) → HaveGoodSettings p.waiting → HaveGoodSettings ws → HaveGoodSettings (fold (with_next second accepted) p ws).waiting
+good_all second accepted p [] h good = h
+good_all second accepted p (w ∷ ws) h good = good_all second accepted (with_next second accepted p w) ws (good_then p w (processing_once second accepted p.value w) h good.0) good.1
 
 pub good_waiting : (l : Leader) (t : Tasks) → HaveGoodSettings t.waiting → HaveGoodSettings (waiting_after l t)
 unfolding processed_by
 good_waiting l t good =
-    let all = good_all l.accepted (before_all (value_before l.me t l.accepted.value)) t.waiting tt good in
+    let all = good_all l.policy.second l.accepted (before_all (value_before l.me t l.accepted.value)) t.waiting tt good in
     elim (is_nothing_new l t) as (λ b. HaveGoodSettings (if b then unacked l (processed_by l t).waiting else (processed_by l t).waiting)) [
       | true ↦ each_filter _ _ (processed_by l t).waiting all
       | false ↦ all

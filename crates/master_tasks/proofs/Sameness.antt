@@ -17,7 +17,7 @@ same_config-itself (id ∷ ids) = and_from _ _ (nat_list_eq_equiv.refl id) (same
 pub stays_accepted : (l : Leader) (t : Tasks) → is_nothing_new l t ≡ true → StaysAccepted l t
 unfolding is_nothing_new is_accepted
 stays_accepted l t h =
-    let whole = and_parts (not (makes_anew l.policy t.additions (processed_by l t).waiting)) (is_accepted l.term l.accepted (next_config l t) (next_value l t)) h in
+    let whole = and_parts (not (makes_anew l.policy t.additions (processed_by l t).anew)) (is_accepted l.term l.accepted (next_config l t) (next_value l t)) h in
     let prefix = and_parts (nat_eq l.accepted.term l.term && same_value (next_value l t) l.accepted.value) (same_config (next_config l t) l.accepted.config) whole.1 in
     let parts = and_parts (nat_eq l.accepted.term l.term) (same_value (next_value l t) l.accepted.value) prefix.0 in
     let tested : nat_eq l.accepted.term l.term ≡ true = parts.0 in

@@ -17,19 +17,19 @@ use Rattle.master_tasks.proofs.tasks.MasterTasks.prepare.Goals as goal
 abbrev new_leader : goal.Else-is_nothing_new → Leader
 new_leader c = leader_of c.args.me c.args.term c.args.accepted.now c.args.committed.now c.args.votes.now c.args.policy
 
-made_new : (c : goal.Else-is_nothing_new) → Made (new_leader c) c.args.self.now c.process.new.value c.in_ok-waiting.field-0.waiting.items c.in_ok-waiting.field-0.replies c.in_ok-config.config
+made_new : (c : goal.Else-is_nothing_new) → Made (new_leader c) c.args.self.now c.process.new.value c.in_ok-waiting.field-0.waiting.items c.in_ok-waiting.field-0.anew c.in_ok-waiting.field-0.replies c.in_ok-config.config
 made_new c =
-    made (new_leader c) c.args.self.now c.in_ok-value.value _ _ _ _
-    (rw c.deref-state.ensures at c.in_ok-value.ensures) c.in_ok-waiting.ensures.value c.in_ok-waiting.ensures.waiting c.in_ok-waiting.ensures.replies (rw c.deref-state.ensures at c.in_ok-config.ensures)
+    made (new_leader c) c.args.self.now c.in_ok-value.value _ _ _ _ _
+    (rw c.deref-state.ensures at c.in_ok-value.ensures) c.in_ok-waiting.ensures.value c.in_ok-waiting.ensures.waiting c.in_ok-waiting.ensures.anew c.in_ok-waiting.ensures.replies (rw c.deref-state.ensures at c.in_ok-config.ensures)
 
-is_new : (c : goal.Else-is_nothing_new) → false ≡ is_old (new_leader c) c.args.self.now c.in_ok-waiting.field-0.waiting.items c.in_ok-config.config c.process.new.value
+is_new : (c : goal.Else-is_nothing_new) → false ≡ is_old (new_leader c) c.args.self.now c.in_ok-waiting.field-0.anew c.in_ok-config.config c.process.new.value
 is_new c = rw c.deref-state.ensures at (sym c.if-is_nothing_new.false ∙ c.is_nothing_new.ensures)
 
 pub returns-clause-waiting : goal.returns-clause-waiting
-returns-clause-waiting c = waiting_new (new_leader c) c.args.self.now _ _ _ _ (made_new c) (is_new c)
+returns-clause-waiting c = waiting_new (new_leader c) c.args.self.now _ _ _ _ _ (made_new c) (is_new c)
 
 pub returns-clause-next : goal.returns-clause-next
-returns-clause-next c = next_new (new_leader c) c.args.self.now _ _ _ _ (made_new c) (is_new c)
+returns-clause-next c = next_new (new_leader c) c.args.self.now _ _ _ _ _ (made_new c) (is_new c)
 
 pub returns-clause-few : goal.returns-clause-few
 returns-clause-few c = c.in_ok-waiting.ensures.few
@@ -49,12 +49,12 @@ returns-clause-good c = λ good.
 abbrev same_leader : goal.After-drop-value-then-is_nothing_new-3 → Leader
 same_leader c = leader_of c.args.me c.args.term c.args.accepted.now c.args.committed.now c.args.votes.now c.args.policy
 
-made_same : (c : goal.After-drop-value-then-is_nothing_new-3) → Made (same_leader c) c.args.self.now c.process.new.value c.in_ok-waiting.field-0.waiting.items c.in_ok-waiting.field-0.replies c.in_ok-config.config
+made_same : (c : goal.After-drop-value-then-is_nothing_new-3) → Made (same_leader c) c.args.self.now c.process.new.value c.in_ok-waiting.field-0.waiting.items c.in_ok-waiting.field-0.anew c.in_ok-waiting.field-0.replies c.in_ok-config.config
 made_same c =
-    made (same_leader c) c.args.self.now c.in_ok-value.value _ _ _ _
-    (rw c.deref-state.ensures at c.in_ok-value.ensures) c.in_ok-waiting.ensures.value c.in_ok-waiting.ensures.waiting c.in_ok-waiting.ensures.replies (rw c.deref-state.ensures at c.in_ok-config.ensures)
+    made (same_leader c) c.args.self.now c.in_ok-value.value _ _ _ _ _
+    (rw c.deref-state.ensures at c.in_ok-value.ensures) c.in_ok-waiting.ensures.value c.in_ok-waiting.ensures.waiting c.in_ok-waiting.ensures.anew c.in_ok-waiting.ensures.replies (rw c.deref-state.ensures at c.in_ok-config.ensures)
 
-is_same : (c : goal.After-drop-value-then-is_nothing_new-3) → true ≡ is_old (same_leader c) c.args.self.now c.in_ok-waiting.field-0.waiting.items c.in_ok-config.config c.process.new.value
+is_same : (c : goal.After-drop-value-then-is_nothing_new-3) → true ≡ is_old (same_leader c) c.args.self.now c.in_ok-waiting.field-0.anew c.in_ok-config.config c.process.new.value
 is_same c = rw c.deref-state.ensures at (sym c.if-is_nothing_new.true ∙ c.is_nothing_new.ensures)
 
 pub returns-then-is_nothing_new-clause-waiting : goal.returns-then-is_nothing_new-clause-waiting
@@ -63,14 +63,14 @@ returns-then-is_nothing_new-clause-waiting c =
     let committed = c.args.committed.now in
     c.answer_by.ensures.left
     ∙ ap (λ (id : StateId). left_by (nothing_new committed id) waiting) (c.id.ensures ∙ ap id_of c.deref-state.ensures)
-    ∙ waiting_same (same_leader c) c.args.self.now _ _ _ _ (made_same c) (is_same c)
+    ∙ waiting_same (same_leader c) c.args.self.now _ _ _ _ _ (made_same c) (is_same c)
 
 pub returns-then-is_nothing_new-clause-next : goal.returns-then-is_nothing_new-clause-next
 returns-then-is_nothing_new-clause-next c =
     let waiting = c.in_ok-waiting.field-0.waiting.items in
     let committed = c.args.committed.now in
     ap Same (c.answer_by.ensures.sent ∙ ap (λ (id : StateId). with_sent c.in_ok-waiting.field-0.replies (answers_by (nothing_new committed id) waiting)) (c.id.ensures ∙ ap id_of c.deref-state.ensures))
-    ∙ next_same (same_leader c) c.args.self.now _ _ _ _ (made_same c) (is_same c)
+    ∙ next_same (same_leader c) c.args.self.now _ _ _ _ _ (made_same c) (is_same c)
 
 pub returns-then-is_nothing_new-clause-few : goal.returns-then-is_nothing_new-clause-few
 returns-then-is_nothing_new-clause-few c = omega (arith, c.answer_by.ensures.few, c.in_ok-waiting.ensures.few)

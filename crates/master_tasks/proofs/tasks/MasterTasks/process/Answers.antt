@@ -1,4 +1,4 @@
-use Rattle.std.proofs.Common.{◌≡◌, ◌<◌, ◌≤◌, ◌∙◌, ap, sym, length, get_or, List, [], ◌∷◌, ◌++◌, arith}
+use Rattle.std.proofs.Common.{◌≡◌, ◌<◌, ◌≤◌, ◌∙◌, ap, false, refl, sym, length, get_or, List, [], ◌∷◌, ◌++◌, arith}
 use Rattle.master_tasks.specs.declared.waiting.Waiting.{Waiting}
 use Rattle.master_tasks.specs.Queue.{Tasks, most_open}
 use Rattle.master_tasks.specs.Replying.{room_for}
@@ -8,7 +8,7 @@ use Rattle.master_tasks.proofs.tasks.MasterTasks.process.Goals.{in-Some, in-None
 
 pub loop-w-init : goal.loop-w-init
 loop-w-init c =
-    processes-start c.args.accepted.now c.args.value.now c.args.self.now.waiting c.new-waiting.result.items c.in_ok-replies.replies c.new-waiting.ensures.items
+    processes-start c.args.second c.args.accepted.now c.args.value.now c.args.self.now.waiting c.new-waiting.result.items false c.in_ok-replies.replies c.new-waiting.ensures.items refl
     (c.in_ok-replies.ensures ∙ ap room_for (c.len.ensures ∙ sym c.deref-w-items.ensures.len ∙ ap length c.deref-w-items.ensures.value ∙ ap (λ (t : Tasks). length t.waiting) c.self.view_is))
 
 pub push-requires : goal.push-requires
@@ -27,20 +27,20 @@ loop-w-preserved c =
     c.w-item.is ∙ ap (λ (ws : List Waiting). get_or ws c.loop-w.w-index c.w-item.result) all in
     elim c.match-branch-3.branch [
       | in-Some w ↦
-          rw (w.waiting-is, w.replies-is, w.push.ensures, w.answer.ensures)
-          (processes-some c.args.accepted.now c.args.value.now c.args.self.now.waiting c.loop-w.w-index c.loop-w.value c.process_once.new.value c.loop-w.waiting.items c.loop-w.replies c.w-item.result w.in-Some.answer
+          rw (w.waiting-is, w.anew-is, w.replies-is, w.push.ensures, w.answer.ensures)
+          (processes-some c.args.second c.args.accepted.now c.args.value.now c.args.self.now.waiting c.loop-w.w-index c.loop-w.value c.process_once.new.value c.loop-w.waiting.items c.loop-w.anew c.loop-w.replies c.w-item.result w.in-Some.answer
           c.loop-w.invariant less at c.in_ok-answer.ensures.value (sym w.in-Some.is ∙ c.in_ok-answer.ensures.answer))
       | in-None+in_ok-processed-in-None+in_ok-push-in-None w ↦
-          rw (w.waiting-is, w.replies-is)
-          (processes-none c.args.accepted.now c.args.value.now c.args.self.now.waiting c.loop-w.w-index c.loop-w.value c.process_once.new.value c.loop-w.waiting.items _ c.loop-w.replies c.w-item.result
+          rw (w.waiting-is, w.anew-is, w.replies-is)
+          (processes-none c.args.second c.args.accepted.now c.args.value.now c.args.self.now.waiting c.loop-w.w-index c.loop-w.value c.process_once.new.value c.loop-w.waiting.items _ c.loop-w.anew _ c.loop-w.replies c.w-item.result
           c.loop-w.invariant less at c.in_ok-answer.ensures.value (sym w.in-None.is ∙ c.in_ok-answer.ensures.answer)
-          (w.in_ok-push-in-None.ensures.items ∙ ap (λ (x : Waiting). c.loop-w.waiting.items ++ x ∷ []) w.in_ok-processed-in-None.ensures))
+          (w.in_ok-push-in-None.ensures.items ∙ ap (λ (x : Waiting). c.loop-w.waiting.items ++ x ∷ []) w.in_ok-processed-in-None.ensures) refl)
     ]
 
-ended : (c : goal.After-loop-w) → AllProcessed c.args.accepted.now c.args.value.now c.args.self.now.waiting c.loop-w.value c.loop-w.waiting.items c.loop-w.replies
+ended : (c : goal.After-loop-w) → AllProcessed c.args.second c.args.accepted.now c.args.value.now c.args.self.now.waiting c.loop-w.value c.loop-w.waiting.items c.loop-w.anew c.loop-w.replies
 ended c =
     let all = ap length (c.deref-w-items.ensures.value ∙ ap (λ (t : Tasks). t.waiting) c.self.view_is) in
-    processes-end c.args.accepted.now c.args.value.now c.args.self.now.waiting c.loop-w.w-index c.loop-w.value c.loop-w.waiting.items c.loop-w.replies c.loop-w.invariant
+    processes-end c.args.second c.args.accepted.now c.args.value.now c.args.self.now.waiting c.loop-w.w-index c.loop-w.value c.loop-w.waiting.items c.loop-w.anew c.loop-w.replies c.loop-w.invariant
     (omega (arith, all, c.loop-w-test.false)) (omega (arith, all, c.loop-w.auto.w-index-end))
 
 pub returns-clause-value : goal.returns-clause-value
@@ -48,6 +48,9 @@ returns-clause-value c = (ended c).value_is
 
 pub returns-clause-waiting : goal.returns-clause-waiting
 returns-clause-waiting c = (ended c).waiting_is
+
+pub returns-clause-anew : goal.returns-clause-anew
+returns-clause-anew c = (ended c).anew_is
 
 pub returns-clause-replies : goal.returns-clause-replies
 returns-clause-replies c = (ended c).replies_are
