@@ -50,9 +50,9 @@ def leads_on(program, top, profile):
         running.leader_of(nodes, end)
         time.sleep(3)
         leader = running.leader_of(nodes, end)
-        # Each line leads to one node. So all of them are stalled: the leader reaches nobody, and nobody reaches it.
-        for line in lines.values():
-            line.goes.clear()
+        for ends, line in lines.items():
+            if leader in ends:
+                line.stall()
         begun, mark = time.monotonic(), b'mode %s candidate' % leader.encode()
         before = nodes[leader].read(0).count(mark)
         while time.monotonic() - begun < CUT_SECONDS and nodes[leader].read(0).count(mark) == before:

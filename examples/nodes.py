@@ -3,9 +3,11 @@ import json
 import os
 import queue
 import random
+import re
 import signal
 import socket
 import subprocess
+import sys
 import threading
 import time
 
@@ -141,7 +143,7 @@ class Line:
     """A port by which a node is reached a little later, in both directions. It can be stalled: then nothing comes through, and nothing ends."""
 
     def __init__(self, port, delay):
-        self.port, self.delay = port, delay
+        self.port, self.delay, self.connections = port, delay, []
         self.goes = threading.Event()
         self.goes.set()
         self.listener = socket.socket()
@@ -164,6 +166,7 @@ class Line:
             for end in near, far:
                 end.settimeout(None)
                 end.setsockopt(socket.IPPROTO_TCP, socket.TCP_NODELAY, 1)
+            self.connections.append((near, far))
             threading.Thread(target=self.hand_on, args=(near, far), daemon=True).start()
             threading.Thread(target=self.hand_on, args=(far, near), daemon=True).start()
 
@@ -192,19 +195,36 @@ class Line:
             except OSError:
                 return
 
-    def close(self):
+    def stall(self):
+        self.goes.clear()
+
+    def break_off(self, is_near):
+        """Stalls, and ends what it holds for the node that dialled, or for the one that it leads to. The other one sees nothing before the line goes on."""
+        self.stall()
+        for near, far in self.connections:
+            try:
+                (near if is_near else far).shutdown(socket.SHUT_RDWR)
+            except OSError:
+                pass
+        self.connections = []
+
+    def go_on(self):
         self.goes.set()
+
+    def close(self):
+        self.go_on()
         self.listener.close()
 
 
 def started_over_lines(program, names, top, delay, words=()):
-    """New nodes that reach each other over lines, with these words more. Gives the nodes, and the lines by the node that they lead to."""
+    """New nodes that reach each other over lines, with these words more. Gives the nodes, and the lines, each by the node that dials and the one that it
+    leads to."""
     ports = free_ports(names)
-    lines = {name: Line(ports[name], delay) for name in names}
+    lines = {(name, other): Line(ports[other], delay) for name in names for other in names if other != name}
     nodes = {name: Node(program, name, top) for name in names}
     try:
         for name, node in nodes.items():
-            node.settle({other: ports[name] if other == name else lines[other].own_port for other in names})
+            node.settle({other: ports[name] if other == name else lines[name, other].own_port for other in names})
             node.words += list(words)
         threads = [threading.Thread(target=node.start) for node in nodes.values()]
         for thread in threads:
@@ -271,3 +291,28 @@ def leader_of(nodes, end):
                 return node.name
         time.sleep(0.1)
     raise Broken('no node leads')
+
+
+def audited(nodes, top):
+    """Puts what all runs of the nodes wrote into one order (examples/merge), left in the folder as one recording, and has `zen audit` judge it. Gives the
+    winners that it finds, as its lines say it, and what it has against it, with the line that it names."""
+    merge = os.path.join(os.path.dirname(os.path.abspath(__file__)), 'merge')
+    recording = os.path.join(top, 'recording')
+    outputs = [output for node in nodes.values() for output in node.outputs]
+    with open(recording, 'wb') as out:
+        merged = subprocess.run([sys.executable, merge, ','.join(sorted(nodes)), *outputs], stdout=out, stderr=subprocess.PIPE, timeout=20)
+    if merged.returncode not in (0, 1):
+        return [], merged.stderr.decode('utf-8', 'replace')
+    program = next(iter(nodes.values())).program
+    with open(recording, 'rb') as lines:
+        done = subprocess.run([program, 'audit'], stdin=lines, stdout=subprocess.PIPE, timeout=20)
+    found = done.stdout.decode()
+    if done.returncode == 0:
+        return found.splitlines()[3:], None
+    named = re.search(' line ([0-9]+)', found)
+    return [], 'status %d, %s%s' % (done.returncode, found.strip(), ': ' + line_of(recording, int(named[1])) if named else '')
+
+
+def line_of(recording, number):
+    with open(recording, encoding='utf-8', errors='replace', newline='\n') as lines:
+        return lines.read().split('\n')[number - 1]
