@@ -2,15 +2,21 @@
 //! docs/policy.md and docs/formats.md, the endings from the table of statuses there.
 mod audits;
 mod coordinators;
+mod hopeless;
 mod inspections;
 mod losses;
 mod nodes;
 mod passages;
 mod random;
+mod rejoins;
+mod replaced;
+mod requests;
 mod rescues;
 mod rows;
 mod runs;
 mod tools;
+mod voters;
+mod votes;
 
 use passages::{A_WINS_OF_THREE, Passage, THREE, THREE_BOOT, THREE_JOIN};
 use rows::{

@@ -5,15 +5,17 @@
 //! follow from docs/policy.md, and states are shown whole by docs/formats.md. Where an example tells only some lines of an event,
 //! only those are compared, and `...` stands for the others, if any.
 use super::passages::{A_LEADS_THREE, ONE, Passage, TWO_VOTER_A};
+use super::rows::Traced;
 use super::runs::{replay_of, written_by};
 use super::texts;
 use schedule_text::Level;
 use std::alloc::{AllocError, Global};
+use std::process::Abort;
 use std::test::Fail;
 use zen_app::Status;
 
 // A node alone is elected, and has its first state committed.
-const LEADER: Passage = &[
+pub const LEADER: Passage = &[
     "> tick a 0 7",
     "act a ok boot a",
     "> tick a 8 7",
@@ -382,7 +384,7 @@ pub const THREE_B_VOTES_ONLY: Passage = &["nodes a,b,c", "initial a,b,c", "votin
 const THREE_B_AND_C_VOTE_ONLY: Passage = &["nodes a,b,c", "initial a,b,c", "voting-only b,c"];
 
 // A name, the header, and what comes to the nodes, each line after `> ` with the lines that it shows.
-const ROWS: &[(&str, Passage, &[Passage])] = &[
+const ROWS: &[Traced] = &[
     (
         "a_node_alone_elects_itself_and_acknowledges_a_put_as_its_commit_is_sent",
         ONE,
@@ -479,23 +481,36 @@ fn shows(trace: &[u8], wanted: &[u8]) -> bool {
     next.is_none()
 }
 
-// Whether the schedule of a row, replayed over whole nodes, shows its lines.
-pub fn shows_its_lines(
+// Whether the schedule of these passages, replayed over whole nodes, shows its lines.
+fn shows_its_lines(
     alloc: Global,
     header: Passage,
-    passages: &[Passage],
+    first: &[Passage],
+    then: &[Passage],
 ) -> Result<bool, AllocError> {
-    let (schedule, wanted) = texts(alloc, header, passages)?;
+    let mut passages = Vec::from_slice(alloc, first)?;
+    passages.extend_from_slice(then)?;
+    let (schedule, wanted) = texts(alloc, header, passages.as_slice())?;
     let case = replay_of(Level::Node, schedule.as_bytes());
     let (status, trace) = written_by(alloc, &case)?;
     Ok(status == Status::Ok && shows(trace.as_bytes(), wanted.as_bytes()))
 }
 
-#[test]
-fn coordinators_show_these_lines(rt: HostRuntime) -> Result<(), Fail> {
-    for (name, header, passages) in ROWS {
-        let shows = shows_its_lines(rt.alloc(), header, passages)?;
+/// Each row's schedule begins with these passages, goes on with its own, and must show the lines of all.
+pub fn show_all(
+    rt: &impl Abort,
+    alloc: Global,
+    first: &[Passage],
+    rows: &[Traced],
+) -> Result<(), Fail> {
+    for (name, header, then) in rows {
+        let shows = shows_its_lines(alloc, header, first, then)?;
         assert!(rt; shows, "{name}");
     }
     Ok(())
+}
+
+#[test]
+fn coordinators_show_these_lines(rt: HostRuntime) -> Result<(), Fail> {
+    show_all(&rt, rt.alloc(), &[], ROWS)
 }

@@ -1,8 +1,8 @@
 //! Whole nodes whose connections end. The lines were written by hand from the rule of a lost peer in docs/policy.md; `...` stands for
 //! those that are not compared.
-use super::coordinators::{THREE_B_VOTES_ONLY, shows_its_lines};
+use super::coordinators::{THREE_B_VOTES_ONLY, show_all};
 use super::passages::{A_LEADS_THREE, Passage, THREE};
-use std::alloc::{AllocError, Global};
+use super::rows::Traced;
 use std::test::Fail;
 
 // A leader goes on with a quorum, and stands down with the last follower of it: it asks all for their votes. What waits fails.
@@ -32,7 +32,7 @@ const FOLLOWS_ON: Passage = &[
 ];
 
 // Both followers lose their leader. They ask their peers 100 ms later, and hear that no one has a master.
-const BOTH_LOSE_THEIR_LEADER: Passage = &[
+pub const BOTH_LOSE_THEIR_LEADER: Passage = &[
     "> disconnect b a",
     "mode b candidate 1",
     "> disconnect c a",
@@ -65,7 +65,7 @@ const FORGETS_THE_ANSWER: Passage = &[
 ];
 
 // b, before which only the dead leader comes, stands after its wait of 8 ms. c has waited as long, but leaves b the time of an election.
-const FIRST_STANDS: Passage = &[
+pub const FIRST_STANDS: Passage = &[
     "> tick b 110 7",
     "> tick c 110 7",
     "> tick b 117 7",
@@ -102,7 +102,7 @@ const SECOND_WAITS_ANEW: Passage = &[
 ];
 
 // The first leads, drops the dead leader as it learns that it is gone, and its state is committed.
-const FIRST_LEADS: Passage = &[
+pub const FIRST_LEADS: Passage = &[
     "> deliver b 39",
     "act b ok startjoin b 2",
     "m41 b->b join 2 1/2",
@@ -188,7 +188,7 @@ const PAST_A_VOTING_ONLY_NODE: Passage = &[
 ];
 
 // A name, the header, and what comes to the nodes once a leads, each line after `> ` with the lines that it shows.
-const ROWS: &[(&str, Passage, &[Passage])] = &[
+const ROWS: &[Traced] = &[
     (
         "a_leader_without_its_quorum_stands_down",
         THREE,
@@ -235,17 +235,7 @@ const ROWS: &[(&str, Passage, &[Passage])] = &[
     ),
 ];
 
-fn show_once_a_leads(alloc: Global, header: Passage, then: &[Passage]) -> Result<bool, AllocError> {
-    let mut passages = Vec::from_slice(alloc, &[A_LEADS_THREE])?;
-    passages.extend_from_slice(then)?;
-    shows_its_lines(alloc, header, passages.as_slice())
-}
-
 #[test]
 fn nodes_that_lose_a_peer_show_these_lines(rt: HostRuntime) -> Result<(), Fail> {
-    for (name, header, then) in ROWS {
-        let shows = show_once_a_leads(rt.alloc(), header, then)?;
-        assert!(rt; shows, "{name}");
-    }
-    Ok(())
+    show_all(&rt, rt.alloc(), &[A_LEADS_THREE], ROWS)
 }

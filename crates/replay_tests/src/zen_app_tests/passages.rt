@@ -338,3 +338,100 @@ pub const A_LEADS_THREE: Passage = &[
     "> deliver c 29",
     "...",
 ];
+
+/// Nodes a, b and c, all voters, by the second profile.
+pub const THREE_BY_THE_SECOND: Passage = &["nodes a,b,c", "initial a,b,c", "profile 2"];
+
+/// Nodes a, b and c whole, by either profile: they find each other, and a asks for pre-votes. Frames 1 to 14.
+pub const A_ASKS_FOR_PRE_VOTES: Passage = &[
+    "> tick a 0 0",
+    "...",
+    "> tick b 0 0",
+    "...",
+    "> tick c 0 0",
+    "...",
+    "> deliver b 1",
+    "...",
+    "> deliver a 7",
+    "> deliver c 2",
+    "...",
+    "> deliver a 8",
+    "> deliver a 3",
+    "...",
+    "> deliver b 9",
+    "> deliver c 4",
+    "...",
+    "> deliver b 10",
+    "> deliver a 5",
+    "...",
+    "> deliver c 11",
+    "> deliver b 6",
+    "...",
+    "> deliver c 12",
+    "> tick a 1 0",
+    "...",
+    "> tick b 1 0",
+    "...",
+    "> tick c 1 0",
+    "...",
+    "> tick a 10 0",
+    "...",
+];
+
+// All three vote for a, and its first state is committed, which c has not been sent.
+const A_LEADS_AND_B_FOLLOWS: Passage = &[
+    "> deliver b 13",
+    "...",
+    "> deliver a 15",
+    "...",
+    "> deliver a 16",
+    "...",
+    "> deliver b 17",
+    "...",
+    "> deliver c 18",
+    "...",
+    "> deliver a 19",
+    "...",
+    "> deliver a 20",
+    "...",
+    "> deliver a 21",
+    "...",
+    "> deliver a 22",
+    "...",
+    "> deliver b 23",
+    "...",
+    "> deliver a 24",
+    "...",
+    "> deliver a 25",
+    "...",
+    "> deliver b 27",
+    "...",
+    "> deliver a 26",
+    "...",
+    "> deliver a 28",
+    "...",
+    "> deliver b 29",
+    "...",
+];
+
+// The next state is sent to c, and committed.
+const C_FOLLOWS: Passage = &[
+    "> deliver c 30",
+    "...",
+    "> deliver a 31",
+    "...",
+    "> deliver a 32",
+    "...",
+    "> deliver a 33",
+    "...",
+    "> deliver b 35",
+    "...",
+    "> deliver c 36",
+    "...",
+    "> deliver a 34",
+    "...",
+];
+
+/// Nodes a, b and c whole, by either profile: a leads, b and c follow, and all have taken the commit of 1/2. Frames 1 to 36; a's moment is 10, that of b
+/// and c is 1.
+pub const ALL_FOLLOW_A: &[Passage] = &[A_ASKS_FOR_PRE_VOTES, A_LEADS_AND_B_FOLLOWS, C_FOLLOWS];

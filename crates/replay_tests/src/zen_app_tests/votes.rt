@@ -1,0 +1,237 @@
+//! Votes that a leader lacks, by either profile. The lines of events that tell were written by hand from docs/policy.md;
+//! `...` stands for those that are not compared.
+use super::coordinators::show_all;
+use super::passages::{A_ASKS_FOR_PRE_VOTES, Passage, THREE, THREE_BY_THE_SECOND};
+use super::rows::Traced;
+use std::test::Fail;
+
+// c stands in the same term and votes for itself. a is elected by b; c finds it, joins, and has the state that is committed next.
+pub const C_HAS_VOTED_FOR_ITSELF: Passage = &[
+    "> deliver b 13",
+    "...",
+    "> deliver a 15",
+    "...",
+    "> tick c 10 0",
+    "...",
+    "> deliver b 20",
+    "...",
+    "> deliver c 21",
+    "...",
+    "> deliver c 24",
+    "...",
+    "> deliver a 16",
+    "...",
+    "> deliver b 17",
+    "...",
+    "> deliver a 26",
+    "...",
+    "> deliver a 27",
+    "...",
+    "> deliver a 28",
+    "...",
+    "> deliver b 29",
+    "...",
+    "> deliver a 30",
+    "...",
+    "> deliver a 31",
+    "...",
+    "> deliver b 33",
+    "...",
+    "> deliver a 32",
+    "...",
+    "> tick c 1001 0",
+    "...",
+    "> deliver a 34",
+    "...",
+    "> deliver c 38",
+    "...",
+    "> deliver a 39",
+    "...",
+    "> deliver a 40",
+    "...",
+    "> deliver b 41",
+    "...",
+    "> deliver c 42",
+    "...",
+    "> deliver a 43",
+    "...",
+    "> deliver a 44",
+    "...",
+    "> deliver a 45",
+    "...",
+];
+
+// A member has responded and voted for itself: the leader has all join it in the next term.
+const A_VOTE_THAT_IS_MISSING_IS_ASKED_FOR: Passage = &[
+    "> deliver a 46",
+    "act a ok commit a 1/2",
+    "m49 a->a startjoin a 2",
+    "m50 a->b startjoin a 2",
+    "m51 a->c startjoin a 2",
+    "> deliver a 49",
+    "act a ok startjoin a 2",
+    "mode a candidate 2",
+    "m52 a->a join 2 1/2",
+    "> deliver b 50",
+    "...",
+    "> deliver c 51",
+    "...",
+    "> deliver a 52",
+    "...",
+    "> deliver a 53",
+    "act a ok join b a 2 1/2",
+    "won a 2",
+    "mode a leader 2",
+    r#"act a ok value 3 a,b,c {"exclusions":[],"master":"a","members":["a","b","c"],"settings":{}}"#,
+    r#"m55 a->a publish {"committed":["a","b","c"],"config":["a","b","c"],"parent":{"term":1,"version":2},"term":2,"value":{"exclusions":[],"master":"a","members":["a","b","c"],"settings":{}},"version":3}"#,
+    r#"m56 a->b publish {"committed":["a","b","c"],"config":["a","b","c"],"parent":{"term":1,"version":2},"term":2,"value":{"exclusions":[],"master":"a","members":["a","b","c"],"settings":{}},"version":3}"#,
+    r#"m57 a->c publish {"committed":["a","b","c"],"config":["a","b","c"],"parent":{"term":1,"version":2},"term":2,"value":{"exclusions":[],"master":"a","members":["a","b","c"],"settings":{}},"version":3}"#,
+];
+
+// A put that waits is answered as the election begins.
+const WHAT_WAITS_FAILS_AS_VOTES_ARE_ASKED_FOR: Passage = &[
+    r#"> client a {"id":1,"put":{"key":"k","value":"v"}}"#,
+    "> deliver a 46",
+    "act a ok commit a 1/2",
+    "m49 a->a startjoin a 2",
+    "m50 a->b startjoin a 2",
+    "m51 a->c startjoin a 2",
+    "> deliver a 49",
+    "act a ok startjoin a 2",
+    "mode a candidate 2",
+    "m52 a->a join 2 1/2",
+    r#"reply a {"failed_to_commit":1,"id":1}"#,
+];
+
+// The next request for votes is 1,000 ms later at the earliest.
+const VOTES_ARE_ASKED_FOR_ONCE_IN_A_SECOND: Passage = &[
+    "> deliver a 46",
+    "act a ok commit a 1/2",
+    "m49 a->a startjoin a 2",
+    "m50 a->b startjoin a 2",
+    "m51 a->c startjoin a 2",
+    "> deliver a 49",
+    "...",
+    "> deliver b 50",
+    "...",
+    "> deliver c 51",
+    "...",
+    "> deliver a 52",
+    "...",
+    "> deliver a 53",
+    "...",
+    "> deliver a 55",
+    "...",
+    "> deliver b 56",
+    "...",
+    "> deliver c 57",
+    "...",
+    "> deliver a 58",
+    "...",
+    "> deliver a 59",
+    "...",
+    "> deliver a 60",
+    "...",
+    "> deliver a 61",
+    "act a ok commit a 2/3",
+    "> tick a 1009 0",
+    "> tick a 1010 0",
+    "m64 a->a startjoin a 3",
+    "m65 a->b followercheck 2",
+    "m66 a->b startjoin a 3",
+    "m67 a->c followercheck 2",
+    "m68 a->c startjoin a 3",
+];
+
+// By the first profile: the vote stays missing.
+const BY_THE_FIRST_PROFILE_A_VOTE_STAYS_MISSING: Passage = &[
+    "> deliver a 46",
+    "act a ok commit a 1/2",
+];
+
+// A leader that has voted for another asks for its own vote.
+const A_LEADER_ASKS_FOR_ITS_OWN_VOTE: Passage = &[
+    "> deliver c 14",
+    "...",
+    "> deliver a 15",
+    "...",
+    "> tick b 10 0",
+    "...",
+    "> deliver c 20",
+    "...",
+    "> deliver b 21",
+    "...",
+    "> deliver a 22",
+    "...",
+    "> deliver b 17",
+    "...",
+    "> deliver c 18",
+    "...",
+    "> deliver a 26",
+    "...",
+    "> deliver a 27",
+    "act a ok join c a 1 0/0",
+    "won a 1",
+    "mode a leader 1",
+    r#"act a ok value 1 a,b,c {"exclusions":[],"master":"a","members":["a","b","c"],"settings":{}}"#,
+    r#"m28 a->a publish {"committed":["a","b","c"],"config":["a","b","c"],"parent":{"term":0,"version":0},"term":1,"value":{"exclusions":[],"master":"a","members":["a","b","c"],"settings":{}},"version":1}"#,
+    r#"m29 a->b publish {"committed":["a","b","c"],"config":["a","b","c"],"parent":{"term":0,"version":0},"term":1,"value":{"exclusions":[],"master":"a","members":["a","b","c"],"settings":{}},"version":1}"#,
+    r#"m30 a->c publish {"committed":["a","b","c"],"config":["a","b","c"],"parent":{"term":0,"version":0},"term":1,"value":{"exclusions":[],"master":"a","members":["a","b","c"],"settings":{}},"version":1}"#,
+    "> deliver a 28",
+    "...",
+    "> deliver b 29",
+    "...",
+    "> deliver c 30",
+    "...",
+    "> deliver a 32",
+    "...",
+    "> deliver a 33",
+    "...",
+    "> deliver a 31",
+    "...",
+    "> deliver a 36",
+    "act a ok commit a 1/1",
+    "m37 a->a startjoin a 2",
+    "m38 a->b startjoin a 2",
+    "m39 a->c startjoin a 2",
+];
+
+// A name, the header, and what comes to the nodes once a asks for pre-votes, each line after `> ` with the lines that it shows.
+const ROWS: &[Traced] = &[
+    (
+        "a_vote_that_is_missing_is_asked_for",
+        THREE_BY_THE_SECOND,
+        &[C_HAS_VOTED_FOR_ITSELF, A_VOTE_THAT_IS_MISSING_IS_ASKED_FOR],
+    ),
+    (
+        "by_the_first_profile_a_vote_stays_missing",
+        THREE,
+        &[
+            C_HAS_VOTED_FOR_ITSELF,
+            BY_THE_FIRST_PROFILE_A_VOTE_STAYS_MISSING,
+        ],
+    ),
+    (
+        "a_leader_asks_for_its_own_vote",
+        THREE_BY_THE_SECOND,
+        &[A_LEADER_ASKS_FOR_ITS_OWN_VOTE],
+    ),
+    (
+        "what_waits_fails_as_votes_are_asked_for",
+        THREE_BY_THE_SECOND,
+        &[
+            C_HAS_VOTED_FOR_ITSELF,
+            WHAT_WAITS_FAILS_AS_VOTES_ARE_ASKED_FOR,
+        ],
+    ),
+    (
+        "votes_are_asked_for_once_in_a_second",
+        THREE_BY_THE_SECOND,
+        &[C_HAS_VOTED_FOR_ITSELF, VOTES_ARE_ASKED_FOR_ONCE_IN_A_SECOND],
+    ),
+];
+
+#[test]
+fn votes_that_are_missing_show_these_lines(rt: HostRuntime) -> Result<(), Fail> {
+    show_all(&rt, rt.alloc(), &[A_ASKS_FOR_PRE_VOTES], ROWS)
+}
