@@ -28,8 +28,7 @@ use Rattle.world_model.specs.declared.acts.Act.{Act}
 use Rattle.world_model.specs.declared.acts.Act.TheVariants.{Bootstrap, StartJoin, TakeJoin, Publish, Response, Commit}
 use Rattle.policy_model.specs.declared.settings.Settings.{Settings}
 use Rattle.policy_model.specs.Events.{Mode, Candidate, Leader, Follower, Event, Start, Tick, FrameCame, LineCame, PeerGone, DropCause, Item, Notes, LeaderChecked, StateMade}
-use Rattle.policy_model.specs.Parts.{as_master}
-use Rattle.policy_model.specs.Views.{View}
+use Rattle.policy_model.specs.Views.{View, master_now}
 use Rattle.policy_model.specs.Moves.{moved, moved_all}
 use Rattle.policy_model.specs.Doing as doing
 use Rattle.policy_model.specs.NextState as next

@@ -17,7 +17,7 @@ use Rattle.master_tasks.specs.Queue.{no_tasks}
 use Rattle.pre_vote.specs.Rounds.{started}
 use Rattle.policy_model.specs.declared.settings.Settings.{Settings}
 use Rattle.policy_model.specs.Events.{Candidate, Leader, Follower, Checks, Lag, Disconnect, Item, ChangesMode, Drops, Sends, Replies, Notes, Met, Heard, RoundAnswered, RoundEnded, Joined, FollowersChecked, LeaderChecked, ExclusionsTimedOut, CommitAcked, AppliedAnswered, HandedOver, PeerLost}
-use Rattle.policy_model.specs.Parts.{no_peers, no_followers, published_at}
+use Rattle.policy_model.specs.Parts.{no_peers, no_followers, published_at, policy_at}
 use Rattle.policy_model.specs.Views.{View}
 use Rattle.policy_model.specs.Moves.{moved}
 use Rattle.policy_model.specs.NextState.{hands_over}
@@ -60,6 +60,16 @@ free id = record { id = id; answer = Some (record { master = None }) }
 
 abbrev to : Id → WireMessage → Item
 to id m = Sends (record { from = a; to = id; message = m })
+
+-- by the second profile a leader takes no voter out for being away in its first 10 s, by the first from the start on
+too_new : (policy_at second 5000 14999).shrink ≡ false
+too_new = refl
+
+long_enough : (policy_at second 5000 15000).shrink ≡ true
+long_enough = refl
+
+at_once : (policy_at three 5000 5000).shrink ≡ true
+at_once = refl
 
 module _ (v : View) where
   -- a follower refuses a pre-vote to another node, and answers its leader

@@ -1,9 +1,10 @@
 -- In the first profile the rules are those of a policy that knows no second one.
-use Rattle.std.proofs.Common.{◌≡◌, Bool, true, false, ◌&&◌, ◌||◌, refl}
+use Rattle.std.proofs.Common.{◌≡◌, Bool, true, false, not, ◌&&◌, ◌||◌, refl, ap, ◌∙◌}
 use Rattle.std.specs.Prelude.{nat_lt, length}
 use Rattle.voting_config.specs.Ids.{same_config}
-use Rattle.master_tasks.specs.NextState.{has_writes}
+use Rattle.election_clock.specs.Delays.{has_passed}
 use Rattle.policy_model.specs.declared.settings.Settings.{Settings}
+use Rattle.policy_model.specs.Parts.{shrink_delay}
 use Rattle.policy_model.specs.Rules.{has_timed_out}
 use Rattle.policy_model.specs.Laws.{IsFirstProfile}
 
@@ -25,6 +26,10 @@ first_profile s h = record {
   given_up = λ v. rw h (or_no (has_timed_out v.publication v.moment));
   led = λ v. rw h refl;
   wanted = λ term accepted committed. rw h (and_yes (same_config committed accepted.config));
-  not_anew = λ additions waiting. rw h (and_no (nat_lt 0 (length additions) || has_writes waiting));
+  not_anew = λ additions anew. rw h (and_no (nat_lt 0 (length additions) || anew));
+  shown = λ accepted value. rw h refl;
+  led_by = λ led_from now.
+      ap (λ (shrink : Bool). record s.policy { shrink = shrink })
+      (ap (λ (second : Bool). s.policy.shrink && (not second || has_passed led_from shrink_delay now)) h ∙ and_yes s.policy.shrink);
   kept = λ v. rw h refl;
 }

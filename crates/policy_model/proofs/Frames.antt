@@ -55,8 +55,8 @@ use Rattle.voting_config.proofs.Sets.{same_self, length-with_id-le, length-set_o
 use Rattle.policy_model.specs.declared.settings.Settings.{Settings}
 use Rattle.policy_model.specs.Events.{Mode, Candidate, Leader, Follower, Event, Start, Tick, FrameCame, LineCame, PeerGone, DropCause, Checks, Lag, Note, Met, Heard, PeersAsked, ElectionOff, ElectionSet, RoundBegun, RoundAnswered, RoundEnded, Joined, FollowersChecked, FollowerAnswered, LeaderChecked, LeaderAnswered, Queued, ExclusionsTimedOut, CommitAcked, AppliedAnswered, StateMade, HandedOver, PeerLost, LeaderLost, Item, Opens, Begins, Acts, ChangesMode, Drops, Sends, Replies, Notes}
 use Rattle.policy_model.specs.Entries.{frames_in, put_frame, by_receiver}
-use Rattle.policy_model.specs.Parts.{as_master, met, published_at, responded, after_response, finished, watched, state_finished}
-use Rattle.policy_model.specs.Views.{View}
+use Rattle.policy_model.specs.Parts.{met, published_at, responded, after_response, finished, watched, state_finished}
+use Rattle.policy_model.specs.Views.{View, master_now}
 use Rattle.policy_model.specs.Moves.{opened, moved, moved_all}
 use Rattle.policy_model.specs.Doing as doing
 use Rattle.policy_model.specs.NextState as next
@@ -126,31 +126,32 @@ members-clear : (value : ClusterValue) (r : Result (Unit {0}) StillMember) → (
 members-clear value (Ok u) = refl
 members-clear value (Err e) = refl
 
-members-ask : (accepted : ClusterState) (value : ClusterValue) (a : Ask) → (value_after value (processing accepted value a)).members ≡ value.members
-members-ask accepted value (ask.Put key text) =
+members-ask : (second : Bool) (accepted : ClusterState) (value : ClusterValue) (a : Ask) → (value_after value (processing second accepted value a)).members ≡ value.members
+members-ask second accepted value (ask.Put key text) =
     members-put (not (has key (map (λ (t : Setting). t.0) value.settings)) && nat_le most_settings (length value.settings)) value (record value { settings = put_setting (key, text) value.settings })
     (AnsweredAtOnce (answer.TooManySettings (most_settings + 1))) refl refl
-members-ask accepted value (ask.Remove key) = refl
-members-ask accepted value (ask.Exclude ids) = members-exclude value (added_of value.exclusions ids)
-members-ask accepted value (ask.Clear wait) = members-clear value (cleared_of value.exclusions value.members wait)
-members-ask accepted value ask.State = refl
+members-ask second accepted value (ask.Remove key) = refl
+members-ask second accepted value (ask.Exclude ids) = members-exclude value (added_of value.exclusions ids)
+members-ask second accepted value (ask.Clear wait) = members-clear value (cleared_of value.exclusions value.members wait)
+members-ask true accepted value ask.State = refl
+members-ask false accepted value ask.State = refl
 
-members-once : (b : Bool) (accepted : ClusterState) (value : ClusterValue) (a : Ask) → (value_after value (if b then Makes value else processing accepted value a)).members ≡ value.members
-members-once true accepted value a = refl
-members-once false accepted value a = members-ask accepted value a
+members-once : (b second : Bool) (accepted : ClusterState) (value : ClusterValue) (a : Ask) → (value_after value (if b then Makes value else processing second accepted value a)).members ≡ value.members
+members-once true second accepted value a = refl
+members-once false second accepted value a = members-ask second accepted value a
 
 members-then : (p : Processed) (w : Waiting) (step : Processing) → (and_then p w step).value.members ≡ (value_after p.value step).members
 members-then p w (AnsweredAtOnce a) = refl
 members-then p w (Makes v) = refl
 
-members-all : (accepted : ClusterState) (p : Processed) (ws : List Waiting) → (fold (with_next accepted) p ws).value.members ≡ p.value.members
-members-all accepted p [] = refl
-members-all accepted p (w ∷ ws) =
-    members-all accepted (with_next accepted p w) ws ∙ members-then p w (processing_once accepted p.value w) ∙ members-once w.processed accepted p.value w.request.ask
+members-all : (second : Bool) (accepted : ClusterState) (p : Processed) (ws : List Waiting) → (fold (with_next second accepted) p ws).value.members ≡ p.value.members
+members-all second accepted p [] = refl
+members-all second accepted p (w ∷ ws) =
+    members-all second accepted (with_next second accepted p w) ws ∙ members-then p w (processing_once second accepted p.value w) ∙ members-once w.processed second accepted p.value w.request.ask
 
 few-next : (l : Master) (t : Tasks) → length l.accepted.value.members ≤ most_ids → length (next_value l t).members ≤ most_ids
 unfolding processed_by next_value
-few-next l t few = rw (members-all l.accepted (before_all (value_before l.me t l.accepted.value)) t.waiting) (few-members l.me t l.accepted.value.members few)
+few-next l t few = rw (members-all l.policy.second l.accepted (before_all (value_before l.me t l.accepted.value)) t.waiting) (few-members l.me t l.accepted.value.members few)
 
 -- ---- what one more item makes of a node's sets
 

@@ -27,15 +27,14 @@ use Rattle.fault_checks.specs.Leaders.{LeaderCheck, leader_tick}
 use Rattle.master_tasks.specs.declared.waiting.Outgoing.{Outgoing}
 use Rattle.master_tasks.specs.Queue.{is_full_of}
 use Rattle.master_tasks.specs.Answering.{answers_by, committed_in, failed}
-use Rattle.cluster_state.specs.States.{id_of}
 use Rattle.master_tasks.specs.NextState.{next_answers, is_nothing_new}
 use Rattle.world_model.specs.declared.acts.Act.{Act}
 use Rattle.world_model.specs.Moves.{is_opening}
 use Rattle.world_model.specs.declared.acts.Act.TheVariants.{StartJoin, TakeJoin, Publish, Response, Commit}
 use Rattle.policy_model.specs.declared.settings.Settings.{Settings}
 use Rattle.policy_model.specs.Events.{Mode, Candidate, Leader, Follower, Event, Start, Tick, FrameCame, LineCame, PeerGone, DropCause, Note, Item, Opens, Acts, ChangesMode, Replies, Notes, LeaderChecked, Queued, ExclusionsTimedOut, CommitAcked, AppliedAnswered, StateMade}
-use Rattle.policy_model.specs.Parts.{as_master, published_id}
-use Rattle.policy_model.specs.Views.{View}
+use Rattle.policy_model.specs.Parts.{published_id}
+use Rattle.policy_model.specs.Views.{View, master_now}
 use Rattle.policy_model.specs.Moves.{moved, moved_all}
 use Rattle.policy_model.specs.Doing as doing
 use Rattle.policy_model.specs.NextState as next
@@ -303,7 +302,7 @@ module _ (s : Settings) where
 
   served-answers_applied : (v : View) → IsServed s v (publications.answers_applied s v)
   served-answers_applied v =
-      Answers v _ AppliedAnswered [] refl (done-step v.node.committed (id_of v.node.accepted) v.tasks.waiting) (Ended _)
+      Answers v _ AppliedAnswered [] refl (done-step v.node.committed v.node.accepted v.tasks.waiting) (Ended _)
 
   served-told_commit : (v : View) (p : Id) (id : StateId) → IsServed s v (publications.on_commit s v p id)
   served-told_commit v p id =

@@ -1,6 +1,6 @@
 -- What answers make of a queue.
 use Rattle.std.proofs.Common.{◌≡◌, ℕ, ◌+◌, Bool, true, false, not, ◌&&◌, Option, None, Some, Result, Ok, Err, List, [], ◌∷◌, ◌++◌, length, refl, sym, ap, ◌∙◌, cond, subst, append_assoc, append-nil, arith}
-use Rattle.std.specs.Prelude.{filter, is_none, is_some, fold, nat_le}
+use Rattle.std.specs.Prelude.{filter, is_none, fold, nat_le}
 use Rattle.std.specs.List.{list_all, cons_option}
 use Rattle.std.specs.Option.{option_map}
 use Rattle.std.proofs.lemmas.Bool.{and_parts, and_from}
@@ -22,7 +22,7 @@ use Rattle.master_tasks.specs.declared.waiting.Waiting.{Waiting}
 use Rattle.master_tasks.specs.declared.waiting.Outgoing.{Outgoing}
 use Rattle.master_tasks.specs.Queue.{Tasks}
 use Rattle.master_tasks.specs.Replying.{answer_to}
-use Rattle.master_tasks.specs.Answering.{failed, answers_by, left_by, committed_in, applied_in, timed_out, nothing_new, excluded_by, unless_voting, if_late, exclusion_span}
+use Rattle.master_tasks.specs.Answering.{failed, answers_by, left_by, committed_in, applied_in, timed_out, nothing_new, excluded_by, answer_applied, waits_applied, unless_voting, if_late, exclusion_span}
 use Rattle.master_tasks.specs.Processing.{AnsweredAtOnce, Makes, Processed, processing, processing_once, excluding, clearing, refused, and_then, with_next, before_all}
 use Rattle.master_tasks.specs.NextState.{Leader, processed_by, next_answers, tasks_after, is_nothing_new, acks, unacked, value_before}
 use Rattle.policy_model.specs.Queues.{is_for_line, answers_line, is_from, is_to, how_many, AreAmong, NoneWaits, Waits, IsGone, IsQueue}
@@ -135,29 +135,43 @@ answer-if : (b : Bool) (x a : Answer) → is_for_line x ≡ false → cond b (So
 answer-if true x a e h = let k : x ≡ a = cc in subst (λ (y : Answer). is_for_line y ≡ false) k e
 answer-if false x a e h = absurd (cc)
 
-late-unless : (committed : List Id) (id : StateId) (processed : Bool) (o : Option (List Id)) (a : Answer) → unless_voting committed id processed o ≡ Some a → is_for_line a ≡ false
-late-unless committed id processed None a h = absurd (cc)
-late-unless committed id processed (Some ids) a h = answer-if (processed && not (some_among ids committed)) (answer.Acked id) a refl h
+answer-unless : (b : Bool) (x a : Answer) → is_for_line x ≡ false → cond b None (Some x) ≡ Some a → is_for_line a ≡ false
+answer-unless true x a e h = absurd (cc)
+answer-unless false x a e h = answer-if true x a e h
+
+late-applied : (committed : List Id) (accepted : ClusterState) (q : Ask) (a : Answer) → answer_applied committed accepted q ≡ Some a → is_for_line a ≡ false
+late-applied committed accepted (ask.Put key text) a h = absurd (cc)
+late-applied committed accepted (ask.Remove key) a h = absurd (cc)
+late-applied committed accepted (ask.Exclude ids) a h = answer-unless (some_among ids committed) (answer.Acked (id_of accepted)) a refl h
+late-applied committed accepted (ask.Clear wait) a h = absurd (cc)
+late-applied committed accepted ask.State a h = answer-if true (answer.State accepted) a refl h
+
+late-unless : (committed : List Id) (id : StateId) (processed : Bool) (q : Ask) (a : Answer) → unless_voting committed id processed q ≡ Some a → is_for_line a ≡ false
+late-unless committed id processed (ask.Put key text) a h = answer-if true (answer.Acked id) a refl h
+late-unless committed id processed (ask.Remove key) a h = answer-if true (answer.Acked id) a refl h
+late-unless committed id processed (ask.Exclude ids) a h = answer-if (processed && not (some_among ids committed)) (answer.Acked id) a refl h
+late-unless committed id processed (ask.Clear wait) a h = answer-if true (answer.Acked id) a refl h
+late-unless committed id processed ask.State a h = absurd (cc)
 
 late-if : (committed : List Id) (late : Bool) (o : Option (List Id)) (a : Answer) → if_late committed late o ≡ Some a → is_for_line a ≡ false
 late-if committed late None a h = absurd (cc)
 late-if committed late (Some ids) a h = answer-if late (answer.ExclusionTimeout (among ids committed)) a refl h
 
 late-committed : (id : StateId) → IsLate (committed_in id)
-late-committed id w a h = answer-if (w.processed && is_none (excluded_by w.request.ask)) (answer.Acked id) a refl h
+late-committed id w a h = answer-if (w.processed && not (waits_applied w.request.ask)) (answer.Acked id) a refl h
 
-late-done : (committed : List Id) (id : StateId) → IsLate (applied_in committed id)
-late-done committed id w a h = late-unless committed id w.processed (excluded_by w.request.ask) a h
+late-done : (committed : List Id) (accepted : ClusterState) → IsLate (applied_in committed accepted)
+late-done committed accepted w a h =
+    elim w.processed as (λ b. cond b (answer_applied committed accepted w.request.ask) None ≡ Some a → is_for_line a ≡ false) [
+      | true ↦ λ k. late-applied committed accepted w.request.ask a k
+      | false ↦ λ k. absurd (cc)
+    ] h
 
 late-timed_out : (committed : List Id) (now : ℕ) → IsLate (timed_out committed now)
 late-timed_out committed now w a h = late-if committed (nat_le (w.arrived + exclusion_span) now) (excluded_by w.request.ask) a h
 
 late-nothing_new : (committed : List Id) (id : StateId) → IsLate (nothing_new committed id)
-late-nothing_new committed id w a h =
-    elim (is_some (excluded_by w.request.ask)) as (λ b. cond b (applied_in committed id w) (Some (answer.Acked id)) ≡ Some a → is_for_line a ≡ false) [
-      | true ↦ λ k. late-done committed id w a k
-      | false ↦ λ k. answer-if true (answer.Acked id) a refl k
-    ] h
+late-nothing_new committed id w a h = late-unless committed id w.processed w.request.ask a h
 
 left-none : (term : ℕ) (ws : List Waiting) → left_by (failed term) ws ≡ []
 left-none term [] = refl
@@ -172,8 +186,8 @@ failed-step term ws = subst (λ (left : List Waiting). IsStep ws left (answers_b
 pub committed-step : (id : StateId) (ws : List Waiting) → IsStep ws (left_by (committed_in id) ws) (answers_by (committed_in id) ws)
 committed-step id ws = decided-step (committed_in id) (late-committed id) ws
 
-pub done-step : (committed : List Id) (id : StateId) (ws : List Waiting) → IsStep ws (left_by (applied_in committed id) ws) (answers_by (applied_in committed id) ws)
-done-step committed id ws = decided-step (applied_in committed id) (late-done committed id) ws
+pub done-step : (committed : List Id) (accepted : ClusterState) (ws : List Waiting) → IsStep ws (left_by (applied_in committed accepted) ws) (answers_by (applied_in committed accepted) ws)
+done-step committed accepted ws = decided-step (applied_in committed accepted) (late-done committed accepted) ws
 
 pub timed_out-step : (committed : List Id) (now : ℕ) (ws : List Waiting) → IsStep ws (left_by (timed_out committed now) ws) (answers_by (timed_out committed now) ws)
 timed_out-step committed now ws = decided-step (timed_out committed now) (late-timed_out committed now) ws
@@ -186,6 +200,10 @@ at-once-if : (b : Bool) (x a : Answer) (value : ClusterValue) → is_for_line x 
 at-once-if true x a value e h = at-once x a e h
 at-once-if false x a value e h = absurd (cc)
 
+made-if : (b : Bool) (x a : Answer) (value : ClusterValue) → is_for_line x ≡ false → cond b (Makes value) (AnsweredAtOnce x) ≡ AnsweredAtOnce a → is_for_line a ≡ false
+made-if true x a value e h = absurd (cc)
+made-if false x a value e h = at-once x a e h
+
 late-refused : (error : AddError) → is_for_line (refused error) ≡ false
 late-refused (TooMany count) = refl
 
@@ -197,18 +215,18 @@ late-clearing : (value : ClusterValue) (r : Result (Unit {0}) StillMember) (a : 
 late-clearing value (Ok u) a h = absurd (cc)
 late-clearing value (Err still) a h = at-once (answer.StillMember still.0) a refl h
 
-late-asked : (accepted : ClusterState) (value : ClusterValue) (q : Ask) (a : Answer) → processing accepted value q ≡ AnsweredAtOnce a → is_for_line a ≡ false
-late-asked accepted value (ask.Put key text) a h = at-once-if _ (answer.TooManySettings (most_settings + 1)) a _ refl h
-late-asked accepted value (ask.Remove key) a h = absurd (cc)
-late-asked accepted value (ask.Exclude ids) a h = late-excluding value (added_of value.exclusions ids) a h
-late-asked accepted value (ask.Clear wait) a h = late-clearing value (cleared_of value.exclusions value.members wait) a h
-late-asked accepted value ask.State a h = at-once (answer.State accepted) a refl h
+late-asked : (second : Bool) (accepted : ClusterState) (value : ClusterValue) (q : Ask) (a : Answer) → processing second accepted value q ≡ AnsweredAtOnce a → is_for_line a ≡ false
+late-asked second accepted value (ask.Put key text) a h = at-once-if _ (answer.TooManySettings (most_settings + 1)) a _ refl h
+late-asked second accepted value (ask.Remove key) a h = absurd (cc)
+late-asked second accepted value (ask.Exclude ids) a h = late-excluding value (added_of value.exclusions ids) a h
+late-asked second accepted value (ask.Clear wait) a h = late-clearing value (cleared_of value.exclusions value.members wait) a h
+late-asked second accepted value ask.State a h = made-if second (answer.State accepted) a value refl h
 
-late-processing : (accepted : ClusterState) (value : ClusterValue) (w : Waiting) (a : Answer) → processing_once accepted value w ≡ AnsweredAtOnce a → is_for_line a ≡ false
-late-processing accepted value w a h =
-    elim w.processed as (λ b. cond b (Makes value) (processing accepted value w.request.ask) ≡ AnsweredAtOnce a → is_for_line a ≡ false) [
+late-processing : (second : Bool) (accepted : ClusterState) (value : ClusterValue) (w : Waiting) (a : Answer) → processing_once second accepted value w ≡ AnsweredAtOnce a → is_for_line a ≡ false
+late-processing second accepted value w a h =
+    elim w.processed as (λ b. cond b (Makes value) (processing second accepted value w.request.ask) ≡ AnsweredAtOnce a → is_for_line a ≡ false) [
       | true ↦ λ k. absurd (cc)
-      | false ↦ λ k. late-asked accepted value w.request.ask a k
+      | false ↦ λ k. late-asked second accepted value w.request.ask a k
     ] h
 
 record IsProcessed (p q : Processed) (ws : List Waiting) : Type 0 where
@@ -218,21 +236,21 @@ record IsProcessed (p q : Processed) (ws : List Waiting) : Type 0 where
   answers : q.answers ≡ p.answers ++ more
   step : IsStep ws left more
 
-processed-step : (accepted : ClusterState) (p : Processed) (ws : List Waiting) → IsProcessed p (fold (with_next accepted) p ws) ws
-processed-step accepted p [] = record { left = []; more = []; waiting = sym (append-nil p.waiting); answers = sym (append-nil p.answers); step = step-none [] }
-processed-step accepted p (w ∷ ws) =
-    elim (processing_once accepted p.value w) as (λ x. processing_once accepted p.value w ≡ x → IsProcessed p (fold (with_next accepted) (and_then p w x) ws) (w ∷ ws)) [
+processed-step : (second : Bool) (accepted : ClusterState) (p : Processed) (ws : List Waiting) → IsProcessed p (fold (with_next second accepted) p ws) ws
+processed-step second accepted p [] = record { left = []; more = []; waiting = sym (append-nil p.waiting); answers = sym (append-nil p.answers); step = step-none [] }
+processed-step second accepted p (w ∷ ws) =
+    elim (processing_once second accepted p.value w) as (λ x. processing_once second accepted p.value w ≡ x → IsProcessed p (fold (with_next second accepted) (and_then p w x) ws) (w ∷ ws)) [
       | AnsweredAtOnce a ↦ λ e.
-          let r : IsProcessed (and_then p w (AnsweredAtOnce a)) (fold (with_next accepted) (and_then p w (AnsweredAtOnce a)) ws) ws = processed-step accepted (and_then p w (AnsweredAtOnce a)) ws in
+          let r : IsProcessed (and_then p w (AnsweredAtOnce a)) (fold (with_next second accepted) (and_then p w (AnsweredAtOnce a)) ws) ws = processed-step second accepted (and_then p w (AnsweredAtOnce a)) ws in
           record {
             left = r.left;
             more = answer_to w a ∷ r.more;
             waiting = r.waiting;
             answers = r.answers ∙ append_assoc p.answers (answer_to w a ∷ []) r.more;
-            step = step-answered w a ws r.left r.more (late-processing accepted p.value w a e) r.step;
+            step = step-answered w a ws r.left r.more (late-processing second accepted p.value w a e) r.step;
           }
       | Makes made ↦ λ e.
-          let r : IsProcessed (and_then p w (Makes made)) (fold (with_next accepted) (and_then p w (Makes made)) ws) ws = processed-step accepted (and_then p w (Makes made)) ws in
+          let r : IsProcessed (and_then p w (Makes made)) (fold (with_next second accepted) (and_then p w (Makes made)) ws) ws = processed-step second accepted (and_then p w (Makes made)) ws in
           record {
             left = record w { processed = true } ∷ r.left;
             more = r.more;
@@ -246,7 +264,7 @@ pub next-step : (l : Leader) (t : Tasks) → IsStep t.waiting (tasks_after l t).
 unfolding next_answers tasks_after processed_by
 next-step l t =
     let r : IsProcessed (before_all (value_before l.me t l.accepted.value)) (processed_by l t) t.waiting =
-    processed-step l.accepted (before_all (value_before l.me t l.accepted.value)) t.waiting in
+    processed-step l.policy.second l.accepted (before_all (value_before l.me t l.accepted.value)) t.waiting in
     let p : Processed = processed_by l t in
     let first : IsStep t.waiting p.waiting p.answers =
     subst (λ (x : List Waiting). IsStep t.waiting x p.answers) (sym r.waiting) (subst (λ (y : List Outgoing). IsStep t.waiting r.left y) (sym r.answers) r.step) in

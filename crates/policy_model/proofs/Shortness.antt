@@ -31,8 +31,7 @@ use Rattle.world_model.specs.declared.acts.Outcome.{Outcome}
 use Rattle.policy_model.specs.declared.settings.Settings.{Settings}
 use Rattle.policy_model.specs.Events.{Mode, Candidate, Leader, Follower, Event, Start, Tick, FrameCame, LineCame, PeerGone, DropCause, Met, Heard, Joined, LeaderChecked, Queued, StateMade, Item, Opens, Begins, Acts, ChangesMode, Drops, Sends, Replies, Notes}
 use Rattle.policy_model.specs.Entries.{deeds_of}
-use Rattle.policy_model.specs.Parts.{as_master}
-use Rattle.policy_model.specs.Views.{View}
+use Rattle.policy_model.specs.Views.{View, master_now}
 use Rattle.policy_model.specs.Moves.{moved, moved_all}
 use Rattle.policy_model.specs.Follows.{IsStruck, Here, Later, without_output}
 use Rattle.policy_model.specs.Doing as doing

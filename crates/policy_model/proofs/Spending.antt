@@ -14,7 +14,6 @@ use Rattle.cluster_state.specs.declared.request.Request.{Request}
 use Rattle.cluster_state.specs.declared.state.ClusterState.{ClusterState}
 use Rattle.cluster_state.specs.declared.state.StateId.{StateId}
 use Rattle.cluster_state.specs.Puts.{bad_setting_of}
-use Rattle.cluster_state.specs.States.{id_of}
 use Rattle.wire_frames.specs.declared.frame.WireMessage.{WireMessage}
 use Rattle.wire_frames.specs.declared.frame.WireMessage.TheVariants as message
 use Rattle.client_lines.specs.Reading.{line_request}
@@ -41,8 +40,8 @@ use Rattle.master_tasks.specs.Queue.{Tasks, most_open, is_full_of, arriving, to_
 use Rattle.master_tasks.proofs.Counting.{counted, counted_next}
 use Rattle.policy_model.specs.Events.{Mode, Candidate, Leader, Follower, Event, Start, Tick, FrameCame, LineCame, PeerGone, DropCause, Note, Met, Heard, PeersAsked, ElectionOff, ElectionSet, RoundBegun, RoundAnswered, RoundEnded, Joined, FollowersChecked, FollowerAnswered, LeaderChecked, LeaderAnswered, Queued, ExclusionsTimedOut, CommitAcked, AppliedAnswered, StateMade, HandedOver, PeerLost, LeaderLost, Item, Opens, Begins, Acts, ChangesMode, Drops, Sends, Replies, Notes}
 use Rattle.policy_model.specs.Entries.{replies_of}
-use Rattle.policy_model.specs.Parts.{as_master, all_to_be_added, published_id}
-use Rattle.policy_model.specs.Views.{View}
+use Rattle.policy_model.specs.Parts.{all_to_be_added, published_id}
+use Rattle.policy_model.specs.Views.{View, master_now}
 use Rattle.policy_model.specs.Moves.{moved, moved_all}
 use Rattle.policy_model.specs.Doing as doing
 use Rattle.policy_model.specs.NextState as next
