@@ -3,6 +3,7 @@ use Rattle.std.proofs.Common.{◌≡◌, refl, [], ◌∷◌, Some, None, codes,
 use Rattle.command_line.specs.Commands.{command_of}
 use Rattle.command_line.specs.Lists.{initial_of, peers_of}
 use Rattle.schedule_text.specs.declared.level.Level.TheVariants.{Core, Node}
+use Rattle.command_line.specs.declared.command.HistoryLevel.TheVariants as history
 use Rattle.command_line.specs.declared.command.ProgramCommand.TheVariants.{Replay, Inspect, Node, UnsafeBootstrap, DetachCluster, Audit}
 
 core_level : command_of (codes "replay" ∷ codes "--level" ∷ codes "core" ∷ []) ≡ Some (Replay Core)
@@ -35,6 +36,7 @@ node : command_of (codes "node" ∷ codes "--no-shrink" ∷ codes "--id" ∷ cod
       shrink = false;
       second = true;
       turns = 7;
+      history = history.All;
     }))
 node = refl
 
@@ -47,11 +49,28 @@ first_profile : command_of (codes "node" ∷ codes "--profile" ∷ codes "1" ∷
       shrink = true;
       second = false;
       turns = 7;
+      history = history.All;
     }))
 first_profile = refl
 
 no_profile : command_of (codes "node" ∷ codes "--profile=3" ∷ codes "--id=a" ∷ codes "--dir=d" ∷ codes "--listen=h" ∷ codes "--peers=_" ∷ codes "--initial=_" ∷ codes "--turns=7" ∷ []) ≡ None
 no_profile = refl
+
+acts_for_good : command_of (codes "node" ∷ codes "--history=acts" ∷ codes "--id=a" ∷ codes "--dir=d" ∷ codes "--listen=h" ∷ codes "--peers=_" ∷ codes "--initial=_" ∷ codes "--turns" ∷ codes "all" ∷ [])
+    ≡ Some (Node (record {
+      link = record { me = codes "a"; listen = codes "h"; peers = [] };
+      dir = codes "d";
+      initial = [];
+      voting_only = [];
+      shrink = true;
+      second = true;
+      turns = 18446744073709551615;
+      history = history.Acts;
+    }))
+acts_for_good = refl
+
+no_history : command_of (codes "node" ∷ codes "--history=act" ∷ codes "--id=a" ∷ codes "--dir=d" ∷ codes "--listen=h" ∷ codes "--peers=_" ∷ codes "--initial=_" ∷ codes "--turns=7" ∷ []) ≡ None
+no_history = refl
 
 alone : command_of (codes "unsafe-bootstrap" ∷ codes "--dir" ∷ codes "d" ∷ codes "--id=a" ∷ []) ≡ Some (UnsafeBootstrap (codes "a") (codes "d"))
 alone = refl

@@ -8,6 +8,8 @@ use Rattle.voting_config.specs.Ids.{Id}
 use Rattle.schedule_text.specs.declared.level.Level.{Level}
 use Rattle.schedule_text.specs.declared.level.Level.TheVariants as level
 use Rattle.zen_host.specs.HostCalls.{ToldSettings}
+use Rattle.command_line.specs.declared.command.HistoryLevel.{HistoryLevel}
+use Rattle.command_line.specs.declared.command.HistoryLevel.TheVariants as history
 use Rattle.command_line.specs.declared.command.ProgramCommand.{ProgramCommand}
 use Rattle.command_line.specs.declared.command.ProgramCommand.TheVariants as command
 use Rattle.command_line.specs.declared.command.WordsError.{WordsError}
@@ -51,12 +53,28 @@ profile_of t =
 abbrev pub second_of : Look → Option Bool
 second_of look = if is_some (look (codes "profile")) then text_at (codes "profile") look >>= profile_of else Some true
 
+-- how much of its life a node writes: all where the option is not given
+abbrev pub history_level_of : Text → Option HistoryLevel
+history_level_of t =
+    if bytes_eq t (codes "all") then Some history.All
+    else (if bytes_eq t (codes "acts") then Some history.Acts
+    else (if bytes_eq t (codes "none") then Some history.Nothing
+    else None))
+
+abbrev pub history_of : Look → Option HistoryLevel
+history_of look = if is_some (look (codes "history")) then text_at (codes "history") look >>= history_level_of else Some history.All
+
+-- after how many inputs a node ends: a number, or `all`, the greatest of 64 bits
+abbrev pub turns_of : Text → Option ℕ
+turns_of t = if bytes_eq t (codes "all") then Some 18446744073709551615 else number_of t
+
 abbrev pub node_of : Look → Option ProgramCommand
 node_of look =
     text_at (codes "initial") look >>= initial_of >>= λ initial.
     voting_only_of look >>= λ voting_only.
     second_of look >>= λ second.
-    text_at (codes "turns") look >>= number_of >>= λ turns.
+    text_at (codes "turns") look >>= turns_of >>= λ turns.
+    history_of look >>= λ level.
     link_of look >>= λ link.
     text_at (codes "dir") look >>= λ dir.
     Some (command.Node (record {
@@ -67,6 +85,7 @@ node_of look =
       shrink = not (is_set (codes "no-shrink") look);
       second = second;
       turns = turns;
+      history = level;
     }))
 
 -- how many steps a generated schedule has at most

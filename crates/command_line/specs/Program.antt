@@ -20,7 +20,8 @@ node_place_takes = option (codes "id") ∷ option (codes "dir") ∷ option (code
 
 abbrev pub node_takes : List Named
 node_takes = node_place_takes
-    ++ option (codes "initial") ∷ option (codes "voting-only") ∷ option (codes "turns") ∷ option (codes "profile") ∷ flag (codes "no-shrink") ∷ []
+    ++ option (codes "initial") ∷ option (codes "voting-only") ∷ option (codes "turns") ∷ option (codes "profile") ∷ option (codes "history")
+    ∷ flag (codes "no-shrink") ∷ []
 
 abbrev pub generate_takes : List Named
 generate_takes = option (codes "number") ∷ option (codes "steps") ∷ []

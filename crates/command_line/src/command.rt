@@ -49,6 +49,17 @@ pub const MAX_STEPS: u64 = 100_000;
 /// The greatest first port of a trial.
 pub const MAX_PORT: u64 = 65_533;
 
+/// How much of its life a node writes.
+#[derive(Clone, Copy)]
+pub enum HistoryLevel {
+    /// All that came, and all that was done and sent.
+    All,
+    /// What was done.
+    Acts,
+    /// Nothing.
+    Nothing,
+}
+
 /// How a node is to run.
 #[derive(Drop)]
 pub struct NodeWords {
@@ -66,6 +77,8 @@ pub struct NodeWords {
     pub second: bool,
     /// After how many inputs the node ends.
     pub turns: u64,
+    /// How much of its life it writes.
+    pub history: HistoryLevel,
 }
 
 /// How a trial is to run.

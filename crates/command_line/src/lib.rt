@@ -8,7 +8,7 @@ mod shape;
 mod values;
 
 pub use command::{
-    LinkWords, MAX_PORT, MAX_STEPS, NodeWords, ProgramCommand, TrialWords, WordsError,
+    HistoryLevel, LinkWords, MAX_PORT, MAX_STEPS, NodeWords, ProgramCommand, TrialWords, WordsError,
 };
 pub use reading::read_words;
 pub use shape::program;

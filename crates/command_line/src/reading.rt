@@ -3,12 +3,14 @@ ghost use Rattle.std.specs.Prelude.{◌≡◌, ◌↔◌, IsTrue, codes, map, st
 ghost use Rattle.std.specs.List.{list_all};
 ghost use Rattle.clap.specs.Words.{first_value, found_of, kind_of, subcommand_rows_of};
 ghost use Rattle.command_line.specs.Answers.{Gives};
-ghost use Rattle.command_line.specs.Commands.{level_of, replay_of, inspect_of, link_of, voting_only_of, profile_of, second_of, node_of, steps_of, generate_of, port_of, trial_of, rescue_of, unsafe_bootstrap_of, detach_cluster_of, command_by, command_of, entered_command, Parses, is_fair as fair};
+ghost use Rattle.command_line.specs.Commands.{level_of, replay_of, inspect_of, link_of, voting_only_of, profile_of, second_of, history_level_of, history_of, turns_of, node_of, steps_of, generate_of, port_of, trial_of, rescue_of, unsafe_bootstrap_of, detach_cluster_of, command_by, command_of, entered_command, Parses, is_fair as fair};
 
 use crate::lists::{initial, peers, up};
 use crate::shape::program;
-use crate::values::{address, id_at, is_set, needed, number_at, number_within, text};
-use crate::{LinkWords, MAX_PORT, MAX_STEPS, NodeWords, ProgramCommand, TrialWords, WordsError};
+use crate::values::{address, id_at, is_set, needed, number, number_at, number_within, text};
+use crate::{
+    HistoryLevel, LinkWords, MAX_PORT, MAX_STEPS, NodeWords, ProgramCommand, TrialWords, WordsError,
+};
 use clap::error::ErrorKind;
 use clap::{ArgMatches, Error};
 use schedule_text::Level;
@@ -93,13 +95,53 @@ fn read_second(matches: &ArgMatches<'_>) -> Result<bool, WordsError>
     }
 }
 
+fn history_level(text: &str) -> Option<HistoryLevel>
+    ensures { result ≡ history_level_of text.now }
+{
+    if text == "all" {
+        Some(HistoryLevel::All)
+    } else if text == "acts" {
+        Some(HistoryLevel::Acts)
+    } else if text == "none" {
+        Some(HistoryLevel::Nothing)
+    } else {
+        None
+    }
+}
+
+// How much of its life the node writes: all where the option is not given.
+fn read_history(matches: &ArgMatches<'_>) -> Result<HistoryLevel, WordsError>
+    ensures { Gives result (history_of (first_value (found_of matches.now))) }
+{
+    if matches.get_str("history").is_none() {
+        return Ok(HistoryLevel::All);
+    }
+    match history_level(needed(matches, "history")?) {
+        Some(level) => Ok(level),
+        None => Err(WordsError::Usage),
+    }
+}
+
+// After how many inputs the node ends: `all` stands for the greatest number.
+fn turns(text: &str) -> Option<u64>
+    ensures { result ≡ turns_of text.now }
+{
+    if text == "all" {
+        return Some(u64::MAX);
+    }
+    number(text)
+}
+
 fn read_node(alloc: Global, matches: &ArgMatches<'_>) -> Result<ProgramCommand, WordsError>
     ensures { Gives result (node_of (first_value (found_of matches.now))) }
 {
     let initial = initial(alloc, needed(matches, "initial")?)?;
     let voting_only = read_voting_only(alloc, matches)?;
     let second = read_second(matches)?;
-    let turns = number_at(matches, "turns")?;
+    let Some(turns) = turns(needed(matches, "turns")?) else {
+        return Err(WordsError::Usage);
+    };
+    let history = read_history(matches)?;
     let link = read_link(alloc, matches)?;
     let dir = text(alloc, matches, "dir")?;
     Ok(ProgramCommand::Node(NodeWords {
@@ -110,6 +152,7 @@ fn read_node(alloc: Global, matches: &ArgMatches<'_>) -> Result<ProgramCommand, 
         shrink: !is_set(matches, "no-shrink"),
         second,
         turns,
+        history,
     }))
 }
 

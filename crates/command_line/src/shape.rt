@@ -50,6 +50,7 @@ fn node<'a>(alloc: Global) -> Result<Command<'a>, AllocError>
         "voting-only",
         "turns",
         "profile",
+        "history",
     ];
     let command = leaf(alloc, "node", &options)?;
     with_flag(alloc, command, "no-shrink")

@@ -106,8 +106,8 @@ fn has_leading_zero(text: &str) -> bool
     text.starts_with('0') && text.len() > 1
 }
 
-// The number of 64 bits that decimal digits alone say, without a zero before others.
-fn number(text: &str) -> Option<u64>
+/// The number of 64 bits that decimal digits alone say, without a zero before others.
+pub fn number(text: &str) -> Option<u64>
     ensures { result ≡ number_of text.now }
 {
     if !are_digits(text) {

@@ -1,7 +1,7 @@
 //! Words that are commands, and words that are none. Which words are commands follows from docs/formats.md.
 use crate::long_lists::with_ids;
 use clap::error::ErrorKind;
-use command_line::{NodeWords, ProgramCommand, WordsError, program, read_words};
+use command_line::{HistoryLevel, NodeWords, ProgramCommand, WordsError, program, read_words};
 use schedule_text::Level;
 use std::alloc::{AllocError, Global};
 use voting_config::NodeId;
@@ -11,6 +11,15 @@ fn level_name(level: Level) -> &'static str {
     match level {
         Level::Core => "core",
         Level::Node => "node",
+    }
+}
+
+// What is said of a history, if not all of it is written.
+fn lines_left(history: HistoryLevel) -> &'static str {
+    match history {
+        HistoryLevel::All => "",
+        HistoryLevel::Acts => ", acts alone",
+        HistoryLevel::Nothing => ", no history",
     }
 }
 
@@ -38,13 +47,14 @@ fn node_text(alloc: Global, node: &NodeWords) -> Result<String, AllocError> {
     let initial = id_list(alloc, node.initial.as_slice())?;
     let voting_only = id_list(alloc, node.voting_only.as_slice())?;
     format!(in alloc;
-        "node {} at {} in {}, peers{peers}, initial{initial}, voting-only{voting_only}, turns {}, shrink {}, second {}",
+        "node {} at {} in {}, peers{peers}, initial{initial}, voting-only{voting_only}, turns {}, shrink {}, second {}{}",
         link.me,
         link.listen,
         node.dir.as_str(),
         node.turns,
         node.shrink,
-        node.second
+        node.second,
+        lines_left(node.history)
     )
 }
 
@@ -132,6 +142,18 @@ const COMMANDS: &[(&str, &str)] = &[
     (
         "node --profile=2 --id c --turns 5 --dir d --peers _ --initial c --listen h",
         "node c at h in d, peers, initial c, voting-only, turns 5, shrink true, second true",
+    ),
+    (
+        "node --history all --id c --turns all --dir d --peers _ --initial c --listen h",
+        "node c at h in d, peers, initial c, voting-only, turns 18446744073709551615, shrink true, second true",
+    ),
+    (
+        "node --id c --turns=5 --dir d --history=acts --peers _ --initial c --listen h",
+        "node c at h in d, peers, initial c, voting-only, turns 5, shrink true, second true, acts alone",
+    ),
+    (
+        "node --id c --turns=all --dir d --peers _ --initial c --listen h --history none",
+        "node c at h in d, peers, initial c, voting-only, turns 18446744073709551615, shrink true, second true, no history",
     ),
     ("generate --number 7 --steps 0", "generate 7 of 0"),
     (
@@ -267,6 +289,8 @@ const NODES: &[&str] = &[
     "node --id a --dir d --listen h --peers _ --initial _ --turns 5 --voting-only",
     "node --id a --dir d --listen h --peers _ --initial _ --turns 5 --profile 2 --profile 2",
     "node --id a --dir d --listen h --peers _ --initial _ --turns 5 --profile",
+    "node --id a --dir d --listen h --peers _ --initial _ --turns 5 --history all --history all",
+    "node --id a --dir d --listen h --peers _ --initial _ --turns 5 --history",
     "node --id a --dir d --listen h --peers _ --initial _ --turns 5 --no-shrink=true",
     "node --id a --dir d --listen h --peers _ --initial _ --turns 5 --level core",
     "node --id a --dir d --listen h --peers _ --initial _ --turns 5 --",
@@ -279,6 +303,11 @@ const VALUES: &[&str] = &[
     "node --id a --dir d --listen h --peers _ --initial _ --turns 5 --profile 3",
     "node --id a --dir d --listen h --peers _ --initial _ --turns 5 --profile 02",
     "node --id a --dir d --listen h --peers _ --initial _ --turns 5 --profile=",
+    "node --id a --dir d --listen h --peers _ --initial _ --turns 5 --history act",
+    "node --id a --dir d --listen h --peers _ --initial _ --turns 5 --history=",
+    "node --id a --dir d --listen h --peers _ --initial _ --turns 5 --history ALL",
+    "node --id a --dir d --listen h --peers _ --initial _ --turns All",
+    "node --id a --dir d --listen h --peers _ --initial _ --turns all,5",
     "node --id A --dir d --listen h --peers _ --initial _ --turns 5",
     "node --id=-a --dir d --listen h --peers _ --initial _ --turns 5",
     "node --id= --dir d --listen h --peers _ --initial _ --turns 5",
@@ -341,6 +370,7 @@ const TRIALS: &[&str] = &[
     "trial --program p --dir d --port 07101 --turns 1",
     "trial --program p --dir d --port 1 --turns=-1",
     "trial --program p --dir d --port 1 --turns 18446744073709551616",
+    "trial --program p --dir d --port 1 --turns all",
     "trial --program= --dir d --port 1 --turns 1",
     "trial --program=-p --dir d --port 1 --turns 1",
     "trial --program p --dir=-d --port 1 --turns 1",

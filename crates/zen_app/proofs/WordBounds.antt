@@ -7,7 +7,7 @@ use Rattle.std.proofs.lemmas.Bool.{leb-true, and_parts}
 use Rattle.command_line.specs.declared.command.ProgramCommand.{ProgramCommand}
 use Rattle.zen_app.specs.Runs.{IsWithin}
 use Rattle.command_line.specs.declared.command.ProgramCommand.TheVariants.{Audit}
-use Rattle.command_line.specs.Commands.{level_of, replay_of, inspect_of, link_of, node_of, voting_only_of, second_of, generate_of, trial_of, rescue_of, unsafe_bootstrap_of, detach_cluster_of, command_by, command_of, steps_of, port_of, most_steps}
+use Rattle.command_line.specs.Commands.{level_of, replay_of, inspect_of, link_of, node_of, voting_only_of, second_of, turns_of, history_of, generate_of, trial_of, rescue_of, unsafe_bootstrap_of, detach_cluster_of, command_by, command_of, steps_of, port_of, most_steps}
 use Rattle.command_line.specs.Given.{Text, look, words_given}
 use Rattle.command_line.specs.Lists.{initial_of, some_of, up_of}
 use Rattle.command_line.specs.Program.{commands}
@@ -48,9 +48,10 @@ of_node look =
     of_last IsWithin (text_at (codes "initial") look >>= initial_of) _ (λ initial.
     of_last IsWithin (voting_only_of look) _ (λ voting_only.
     of_last IsWithin (second_of look) _ (λ second.
-    of_last IsWithin (text_at (codes "turns") look >>= number_of) _ (λ turns.
+    of_last IsWithin (text_at (codes "turns") look >>= turns_of) _ (λ turns.
+    of_last IsWithin (history_of look) _ (λ level.
     of_last IsWithin (link_of look) _ (λ link.
-    of_last IsWithin (text_at (codes "dir") look) _ (λ dir. tt))))))
+    of_last IsWithin (text_at (codes "dir") look) _ (λ dir. tt)))))))
 
 of_steps : (o : Option Text) → OfSome (λ (n : ℕ). n ≤ most_steps) (o >>= steps_of)
 of_steps None = tt
