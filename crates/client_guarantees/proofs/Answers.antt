@@ -1,6 +1,6 @@
 -- The answers that requests get, and when they are true.
 use Rattle.std.proofs.Common.{◌≡◌, ℕ, Bool, true, false, Option, None, Some, Result, Ok, Err, List, [], ◌∷◌, ◌++◌, refl, sym, ◌∙◌, ap, subst, inl, inr, ◌||◌, ◌<◌, true≢false, arith}
-use Rattle.std.specs.Prelude.{if◌then◌else◌, is_some, is_none, nat_le, nat_eq, fold, not, ◌&&◌, ◌+◌, length, map}
+use Rattle.std.specs.Prelude.{if◌then◌else◌, nat_le, nat_eq, fold, not, ◌&&◌, ◌+◌, length, map}
 use Rattle.std.specs.List.{cons_option}
 use Rattle.std.specs.Option.{option_map}
 use Rattle.std.proofs.lemmas.Bool.{both_ways, and_parts, or_parts, not-true}
@@ -25,9 +25,9 @@ use Rattle.master_tasks.specs.declared.waiting.Waiting.{Waiting}
 use Rattle.master_tasks.specs.declared.waiting.Outgoing.{Outgoing}
 use Rattle.master_tasks.specs.Queue.{Tasks}
 use Rattle.master_tasks.specs.Replying.{answer_to}
-use Rattle.master_tasks.specs.Answering.{answers_by, left_by, excluded_by, failed, committed_in, unless_voting, applied_in, if_late, timed_out, nothing_new}
+use Rattle.master_tasks.specs.Answering.{answer_applied, waits_applied, answers_by, left_by, excluded_by, failed, committed_in, unless_voting, applied_in, if_late, timed_out, nothing_new}
 use Rattle.master_tasks.specs.Processing.{Processing, AnsweredAtOnce, Makes, excluding, clearing, processing, processing_once, Processed, before_all, and_then, with_next}
-use Rattle.master_tasks.specs.NextState.{Leader as NextMaster, value_before, processed_by, next_value, is_accepted, is_write, has_writes, is_nothing_new, next_answers}
+use Rattle.master_tasks.specs.NextState.{Leader as NextMaster, value_before, processed_by, next_value, is_accepted, is_nothing_new, next_answers}
 use Rattle.master_tasks.proofs.Sameness.{stays_accepted}
 use Rattle.world_model.specs.Histories.{History}
 use Rattle.policy_model.specs.declared.settings.Settings.{Settings}
@@ -35,7 +35,8 @@ use Rattle.voting_config.proofs.Sets.{same_is}
 use Rattle.world_model.specs.Safety.{Published, IsCommitted}
 use Rattle.client_guarantees.specs.Replies.{HasCommitted}
 use Rattle.client_guarantees.specs.Asked.{MeetsEach, HasNoVoterOf}
-use Rattle.client_guarantees.proofs.Folding.{Each, each-map, IsAmong, Of, had-behind}
+use Rattle.client_guarantees.specs.Processed.{processed_into_next}
+use Rattle.client_guarantees.proofs.Folding.{Each, each-map, IsAmong, Of, had-behind, nothing_processed}
 use Rattle.client_guarantees.proofs.Telling.{Basis, Up, IsNewFor, AckIsTrue, AnswerIsTrue, AllTrue, true-none, true-cons, true-append}
 
 -- nobody waits on where nobody waits
@@ -54,36 +55,16 @@ pub each-processed : (s : Settings) (P : Basis) (done : List Waiting) (id : Stat
 each-processed s P done id [] e f = tt
 each-processed s P done id (w ∷ ws) e f = ((λ t. (e.0 t, f.0 t)), each-processed s P done id ws e.1 f.1)
 
--- an exclusion is no write
-no_write : {A : Type 0} (a : Ask) (ids : List Id) → excluded_by a ≡ Some ids → is_write a ≡ true → A
-no_write (ask.Put key text) ids e w = absurd (cc)
-no_write (ask.Remove key) ids e w = absurd (cc)
-no_write (ask.Exclude asked) ids e w = absurd (true≢false (sym w))
-no_write (ask.Clear wait) ids e w = absurd (cc)
-no_write ask.State ids e w = absurd (cc)
-
--- in the second profile it is no write
-abbrev pub IsNoWrite : Settings → Waiting → Type 0
-IsNoWrite s w = s.policy.second ≡ true → is_write w.request.ask ≡ false
-
-none_write : (ws : List Waiting) → has_writes ws ≡ false → Each (λ w. is_write w.request.ask ≡ false) ws
-none_write [] e = tt
-none_write (w ∷ ws) e = let parts = or_parts (is_write w.request.ask) (has_writes ws) e in (parts.0, none_write ws parts.1)
-
-each-no_write : (s : Settings) (ws : List Waiting) → (s.policy.second ≡ true → has_writes ws ≡ false) → Each (IsNoWrite s) ws
-each-no_write s [] f = tt
-each-no_write s (w ∷ ws) f = ((λ x. (or_parts (is_write w.request.ask) (has_writes ws) (f x)).0), each-no_write s ws (λ x. (or_parts (is_write w.request.ask) (has_writes ws) (f x)).1))
-
 left_false : (x y z b : Bool) → not ((x || y) && b) && z ≡ true → b ≡ true → y ≡ false
 left_false x false z b e f = refl
 left_false false true z true e f = absurd (true≢false (sym e))
 left_false true true z true e f = absurd (true≢false (sym e))
 left_false x true z false e f = absurd (true≢false (sym f))
 
--- where nothing is new in the second profile, no write waits
-pub no_writes : (s : Settings) (l : NextMaster) (t : Tasks) → l.policy ≡ s.policy → is_nothing_new l t ≡ true → Each (IsNoWrite s) (processed_by l t).waiting
+-- where nothing is new in the second profile, no request was processed
+pub nothing_anew : (s : Settings) (l : NextMaster) (t : Tasks) → l.policy.second ≡ s.policy.second → is_nothing_new l t ≡ true → s.policy.second ≡ true → processed_into_next l t ≡ []
 unfolding is_nothing_new
-no_writes s l t y n = each-no_write s (processed_by l t).waiting (λ x. left_false _ _ _ l.policy.second n (ap (λ p. p.second) y ∙ x))
+nothing_anew s l t y n x = nothing_processed l t (left_false _ _ _ l.policy.second n (y ∙ x))
 
 -- a state of an earlier term is none of this one
 other_term : (a b : ℕ) (x y : Bool) → a < b → (nat_eq a b && x && y) ≡ false
@@ -145,27 +126,13 @@ none_among (x ∷ xs) config n id k = from (same x id) refl k (λ m q. none_amon
     from true e q rest = subst (λ (y : Id). has y config ≡ false) (same_is x id e) parts.0
     from false e q rest = rest parts.1 q
 
-no_voter : (config : List Id) (a : Ask) (ids : List Id) → excluded_by a ≡ Some ids → some_among ids config ≡ false → HasNoVoterOf config a
-no_voter config (ask.Exclude asked) ids e n = none_among asked config (subst (λ (l : List Id). some_among l config ≡ false) (sym (ap ids_of e)) n)
-  where
-    ids_of : Option (List Id) → List Id
-    ids_of None = []
-    ids_of (Some l) = l
-no_voter config (ask.Put key text) ids e n = tt
-no_voter config (ask.Remove key) ids e n = tt
-no_voter config (ask.Clear wait) ids e n = tt
-no_voter config ask.State ids e n = tt
-
-excludes_none : (config : List Id) (a : Ask) → is_some (excluded_by a) ≡ false → HasNoVoterOf config a
+-- a request that does not wait until its state is applied excludes nobody
+excludes_none : (config : List Id) (a : Ask) → waits_applied a ≡ false → HasNoVoterOf config a
 excludes_none config (ask.Exclude asked) e = absurd (true≢false e)
 excludes_none config (ask.Put key text) e = tt
 excludes_none config (ask.Remove key) e = tt
 excludes_none config (ask.Clear wait) e = tt
 excludes_none config ask.State e = tt
-
-none_is : (o : Option (List Id)) → is_none o ≡ true → is_some o ≡ false
-none_is None e = refl
-none_is (Some ids) e = absurd (true≢false (sym e))
 
 module _ (h : History) (s : Settings) (P : Basis) (g : List Waiting) where
   granted : (done : List Waiting) (id : StateId) → (d : HasDone h P.low g done id) → (w : Waiting) → HasNoVoterOf d.as_published.state.config w.request.ask → IsNewFor s P id w → IsAmong done w → AckIsTrue h s P g w.conn w.request.id id
@@ -216,36 +183,54 @@ module _ (h : History) (s : Settings) (P : Basis) (g : List Waiting) where
 
   committed_one : (done : List Waiting) (id : StateId) → HasDone h P.low g done id → (w : Waiting) → IsProcessedFor s P done id w → IsTrueOption w (committed_in id w)
   committed_one done id d w a =
-      true-if w (w.processed && is_none (excluded_by w.request.ask)) (Some (answer.Acked id)) None
+      true-if w (w.processed && not (waits_applied w.request.ask)) (Some (answer.Acked id)) None
       (λ e.
-      let p = a (and_parts _ _ e).0 in
-      granted done id d w (excludes_none _ w.request.ask (none_is _ (and_parts _ _ e).1)) p.1 p.0) (λ e. tt)
+      let parts = and_parts _ _ e in
+      let p = a parts.0 in
+      granted done id d w (excludes_none _ w.request.ask (not-true _ parts.1)) p.1 p.0) (λ e. tt)
 
   pub true-committed_in : (done : List Waiting) (id : StateId) → HasDone h P.low g done id → (ws : List Waiting) → Each (IsProcessedFor s P done id) ws → AllTrue h s P g (answers_by (committed_in id) ws)
   true-committed_in done id d ws e =
       true-answers_by (committed_in id) ws (each-map (IsProcessedFor s P done id) (λ w. IsTrueOption w (committed_in id w)) (committed_one done id d) ws e)
 
-  -- the committed configuration is the state's
-  module _ (done : List Waiting) (committed : List Id) (id : StateId) (d : HasDone h P.low g done id) (c : committed ≡ d.as_published.state.config) where
-    voting_one : (w : Waiting) (o : Option (List Id)) → excluded_by w.request.ask ≡ o → (w.processed ≡ true → IsAmong done w) → IsTrueOption w (unless_voting committed id w.processed o)
-    voting_one w None e a = tt
-    voting_one w (Some asked) e a =
-        true-if w (w.processed && not (some_among asked committed)) (Some (answer.Acked id)) None
-        (λ t. granted done id d w (no_voter _ w.request.ask asked e (subst (λ (l : List Id). some_among asked l ≡ false) c (not-true _ (and_parts _ _ t).1))) (λ x y. no_write w.request.ask asked e y) (a (and_parts _ _ t).0)) (λ t. tt)
+  -- a request that was processed is acked with this id
+  acked_one : (done : List Waiting) (id : StateId) (d : HasDone h P.low g done id) (w : Waiting) → IsAmong done w × IsNewFor s P id w → HasNoVoterOf d.as_published.state.config w.request.ask → IsTrueOption w (Some (answer.Acked id))
+  acked_one done id d w a n = granted done id d w n a.1 a.0
 
-    pub true-applied_in : (ws : List Waiting) → Each (λ w. w.processed ≡ true → IsAmong done w) ws → AllTrue h s P g (answers_by (applied_in committed id) ws)
-    true-applied_in ws e =
-        true-answers_by (applied_in committed id) ws
-        (each-map (λ w. w.processed ≡ true → IsAmong done w) (λ w. IsTrueOption w (applied_in committed id w)) (λ w a. voting_one w (excluded_by w.request.ask) refl a) ws e)
+  -- none of these nodes votes in the committed configuration
+  none_votes : (committed config asked : List Id) → committed ≡ config → some_among asked committed ≡ false → (id : Id) → has id asked ≡ true → has id config ≡ false
+  none_votes committed config asked c e = none_among asked config (subst (λ (l : List Id). some_among asked l ≡ false) c e)
 
-    nothing_new_one : (w : Waiting) → IsAmong done w × IsNoWrite s w → IsTrueOption w (nothing_new committed id w)
-    nothing_new_one w a =
-        true-if w (is_some (excluded_by w.request.ask)) (applied_in committed id w) (Some (answer.Acked id))
-        (λ e. voting_one w (excluded_by w.request.ask) refl (λ t. a.0)) (λ e. granted done id d w (excludes_none _ w.request.ask e) (λ x y. absurd (both_ways _ (a.1 x) y)) a.0)
+  -- the committed configuration is that of the accepted state, which is committed
+  module _ (done : List Waiting) (committed : List Id) (accepted : ClusterState) (d : HasDone h P.low g done (id_of accepted)) (c : committed ≡ d.as_published.state.config) where
+    applied_one : HasCommitted h accepted → (w : Waiting) (a : Ask) → w.request.ask ≡ a → IsAmong done w × IsNewFor s P (id_of accepted) w → Of P.came w → IsTrueOption w (answer_applied committed accepted a)
+    applied_one k w (ask.Put key text) e a q = tt
+    applied_one k w (ask.Remove key) e a q = tt
+    applied_one k w (ask.Exclude asked) e a q =
+        true-if w (some_among asked committed) None (Some (answer.Acked (id_of accepted))) (λ t. tt)
+        (λ t. acked_one done (id_of accepted) d w a (subst (HasNoVoterOf d.as_published.state.config) (sym e) (none_votes committed d.as_published.state.config asked c t)))
+    applied_one k w (ask.Clear wait) e a q = tt
+    applied_one k w ask.State e a q = record { request = w; has_conn = refl; has_number = refl; is_asked = e; came = q; is_new = a.1; committed = k }
 
-    true-nothing_new : (ws : List Waiting) → Each (λ w. IsAmong done w × IsNoWrite s w) ws → AllTrue h s P g (answers_by (nothing_new committed id) ws)
+    pub true-applied_in : HasCommitted h accepted → (ws : List Waiting) → Each (IsProcessedFor s P done (id_of accepted)) ws → Each (Of P.came) ws → AllTrue h s P g (answers_by (applied_in committed accepted) ws)
+    true-applied_in k ws e q =
+        true-answers_by (applied_in committed accepted) ws
+        (each-map (λ w. IsProcessedFor s P done (id_of accepted) w × Of P.came w) (λ w. IsTrueOption w (applied_in committed accepted w))
+        (λ w a. true-if w w.processed (answer_applied committed accepted w.request.ask) None (λ t. applied_one k w w.request.ask refl (a.0 t) a.1) (λ t. tt)) ws (each-both (IsProcessedFor s P done (id_of accepted)) (Of P.came) ws e q))
+
+    nothing_new_one : (w : Waiting) (a : Ask) → w.request.ask ≡ a → IsAmong done w × IsNewFor s P (id_of accepted) w → IsTrueOption w (unless_voting committed (id_of accepted) w.processed a)
+    nothing_new_one w (ask.Put key text) e a = acked_one done (id_of accepted) d w a (subst (HasNoVoterOf d.as_published.state.config) (sym e) tt)
+    nothing_new_one w (ask.Remove key) e a = acked_one done (id_of accepted) d w a (subst (HasNoVoterOf d.as_published.state.config) (sym e) tt)
+    nothing_new_one w (ask.Exclude asked) e a =
+        true-if w (w.processed && not (some_among asked committed)) (Some (answer.Acked (id_of accepted))) None
+        (λ t. acked_one done (id_of accepted) d w a (subst (HasNoVoterOf d.as_published.state.config) (sym e) (none_votes committed d.as_published.state.config asked c (not-true _ (and_parts _ _ t).1)))) (λ t. tt)
+    nothing_new_one w (ask.Clear wait) e a = acked_one done (id_of accepted) d w a (subst (HasNoVoterOf d.as_published.state.config) (sym e) tt)
+    nothing_new_one w ask.State e a = tt
+
+    true-nothing_new : (ws : List Waiting) → Each (λ w. IsAmong done w × IsNewFor s P (id_of accepted) w) ws → AllTrue h s P g (answers_by (nothing_new committed (id_of accepted)) ws)
     true-nothing_new ws e =
-        true-answers_by (nothing_new committed id) ws (each-map (λ w. IsAmong done w × IsNoWrite s w) (λ w. IsTrueOption w (nothing_new committed id w)) nothing_new_one ws e)
+        true-answers_by (nothing_new committed (id_of accepted)) ws
+        (each-map (λ w. IsAmong done w × IsNewFor s P (id_of accepted) w) (λ w. IsTrueOption w (nothing_new committed (id_of accepted) w)) (λ w a. nothing_new_one w w.request.ask refl a) ws e)
 
   -- requests that are answered at once are not acknowledged, and one for the state is shown the accepted one
   abbrev IsTrueProcessing : Waiting → Processing → Type 0
@@ -264,24 +249,32 @@ module _ (h : History) (s : Settings) (P : Basis) (g : List Waiting) where
   true-clearing w value (Ok u) = tt
   true-clearing w value (Err still) = tt
 
-  true-processing : (w : Waiting) (accepted : ClusterState) (value : ClusterValue) (a : Ask) → w.request.ask ≡ a → MayBeShown h P accepted w → IsTrueProcessing w (processing accepted value a)
-  true-processing w accepted value (ask.Put key text) e c =
+  -- by the second profile it waits
+  true-showing : (w : Waiting) (accepted : ClusterState) (value : ClusterValue) (second : Bool) → second ≡ s.policy.second → w.request.ask ≡ ask.State → MayBeShown h P accepted w
+      → IsTrueProcessing w (if second then Makes value else AnsweredAtOnce (answer.State accepted))
+  true-showing w accepted value true y e c = tt
+  true-showing w accepted value false y e c =
+      record { request = w; has_conn = refl; has_number = refl; is_asked = e; came = c.1; is_new = λ x. absurd (both_ways _ (sym y) x); committed = c.0 }
+
+  true-processing : (w : Waiting) (second : Bool) (accepted : ClusterState) (value : ClusterValue) (a : Ask) → second ≡ s.policy.second → w.request.ask ≡ a → MayBeShown h P accepted w → IsTrueProcessing w (processing second accepted value a)
+  true-processing w second accepted value (ask.Put key text) y e c =
       either w (not (has key (map (λ t. t.0) value.settings)) && nat_le most_settings (length value.settings))
       (AnsweredAtOnce (answer.TooManySettings (most_settings + 1))) (Makes (record value { settings = put_setting (key, text) value.settings })) tt tt
-  true-processing w accepted value (ask.Remove key) e c = tt
-  true-processing w accepted value (ask.Exclude ids) e c = true-excluding w value (added_of value.exclusions ids)
-  true-processing w accepted value (ask.Clear wait) e c = true-clearing w value (cleared_of value.exclusions value.members wait)
-  true-processing w accepted value ask.State e c = record { request = w.request; has_number = refl; is_asked = e; came = c.1; committed = c.0 }
+  true-processing w second accepted value (ask.Remove key) y e c = tt
+  true-processing w second accepted value (ask.Exclude ids) y e c = true-excluding w value (added_of value.exclusions ids)
+  true-processing w second accepted value (ask.Clear wait) y e c = true-clearing w value (cleared_of value.exclusions value.members wait)
+  true-processing w second accepted value ask.State y e c = true-showing w accepted value second y e c
 
   true-and_then : (p : Processed) (w : Waiting) (x : Processing) → IsTrueProcessing w x → AllTrue h s P g p.answers → AllTrue h s P g (and_then p w x).answers
   true-and_then p w (AnsweredAtOnce a) t all = true-append h s P g p.answers (answer_to w a ∷ []) all (true-cons h s P g (answer_to w a) [] t (true-none h s P g))
   true-and_then p w (Makes made) t all = all
 
-  true-processed : (accepted : ClusterState) (p : Processed) (ws : List Waiting) → Each (MayBeShown h P accepted) ws → AllTrue h s P g p.answers → AllTrue h s P g (fold (with_next accepted) p ws).answers
-  true-processed accepted p [] c all = all
-  true-processed accepted p (w ∷ ws) c all =
-      true-processed accepted (with_next accepted p w) ws c.1
-      (true-and_then p w (processing_once accepted p.value w) (either w w.processed (Makes p.value) (processing accepted p.value w.request.ask) tt (true-processing w accepted p.value w.request.ask refl c.0)) all)
+  true-processed : (second : Bool) (accepted : ClusterState) (p : Processed) (ws : List Waiting) → second ≡ s.policy.second → Each (MayBeShown h P accepted) ws → AllTrue h s P g p.answers → AllTrue h s P g (fold (with_next second accepted) p ws).answers
+  true-processed second accepted p [] y c all = all
+  true-processed second accepted p (w ∷ ws) y c all =
+      true-processed second accepted (with_next second accepted p w) ws y c.1
+      (true-and_then p w (processing_once second accepted p.value w)
+      (either w w.processed (Makes p.value) (processing second accepted p.value w.request.ask) tt (true-processing w second accepted p.value w.request.ask y refl c.0)) all)
 
   true-when : (b : Bool) (xs : List Outgoing) → (b ≡ true → AllTrue h s P g xs) → AllTrue h s P g (if b then xs else [])
   true-when true xs a = a refl
@@ -302,11 +295,11 @@ module _ (h : History) (s : Settings) (P : Basis) (g : List Waiting) where
       }
 
   -- the answers of a next state
-  pub true-next : (l : NextMaster) (t : Tasks) (older done : List Waiting) → l.policy ≡ s.policy → g ≡ older ++ done → MeetsEach (next_value l t) done → Each (IsAmong done) (processed_by l t).waiting
-      → Each (MayBeShown h P l.accepted) t.waiting → (is_nothing_new l t ≡ true → IsSettled h P.low l) → AllTrue h s P g (next_answers l t)
+  pub true-next : (l : NextMaster) (t : Tasks) (older done : List Waiting) → l.policy.second ≡ s.policy.second → g ≡ older ++ done → MeetsEach (next_value l t) done → Each (IsAmong done) (processed_by l t).waiting
+      → (is_nothing_new l t ≡ true → Each (IsNewFor s P (id_of l.accepted)) (processed_by l t).waiting) → Each (MayBeShown h P l.accepted) t.waiting → (is_nothing_new l t ≡ true → IsSettled h P.low l) → AllTrue h s P g (next_answers l t)
   unfolding next_answers processed_by has_done
-  true-next l t older done y e a w shown c =
-      true-append h s P g _ _ (true-processed l.accepted (before_all (value_before l.me t l.accepted.value)) t.waiting shown (true-none h s P g))
+  true-next l t older done y e a w x shown c =
+      true-append h s P g _ _ (true-processed l.policy.second l.accepted (before_all (value_before l.me t l.accepted.value)) t.waiting y shown (true-none h s P g))
       (true-when (is_nothing_new l t) _ (λ n.
       let k = c n in
-      true-nothing_new done l.committed (id_of l.accepted) (has_done l t older done e a k.committed k.since n) (k.config ∙ sym (ap (λ (x : ClusterState). x.config) k.committed.is_state)) (processed_by l t).waiting (each-both (IsAmong done) (IsNoWrite s) _ w (no_writes s l t y n))))
+      true-nothing_new done l.committed l.accepted (has_done l t older done e a k.committed k.since n) (k.config ∙ sym (ap (λ (x : ClusterState). x.config) k.committed.is_state)) (processed_by l t).waiting (each-both (IsAmong done) (IsNewFor s P (id_of l.accepted)) _ w (x n))))

@@ -138,6 +138,9 @@ clear_grants value wait = record { own = refl; others = others }
     others (ask.Clear w) n h = refl
     others ask.State n h = tt
 
+state_grants : (value : ClusterValue) → Grants value ask.State value
+state_grants value = record { own = tt; others = λ b n h. h }
+
 exclude_makes : (value : ClusterValue) (ids : List Id) (b : Bool) (error : AddError) → MakesGranted value (ask.Exclude ids) (excluding value (if b then Err error else Ok (union value.exclusions ids)))
 exclude_makes value ids true error = tt
 exclude_makes value ids false error = exclude_grants value ids
@@ -146,14 +149,14 @@ clear_makes : (value : ClusterValue) (wait : Bool) (r : Result (Unit {0}) StillM
 clear_makes value wait (Ok u) = clear_grants value wait
 clear_makes value wait (Err still) = tt
 
-pub makes_granted : (accepted : ClusterState) (value : ClusterValue) (a : Ask) → MakesGranted value a (processing accepted value a)
-makes_granted accepted value (ask.Put key text) =
+pub makes_granted : (second : Bool) (accepted : ClusterState) (value : ClusterValue) (a : Ask) → MakesGranted value a (processing second accepted value a)
+makes_granted second accepted value (ask.Put key text) =
     either value (ask.Put key text) (not (has key (map (λ t. t.0) value.settings)) && nat_le most_settings (length value.settings))
     (AnsweredAtOnce (answer.TooManySettings (most_settings + 1))) (Makes (record value { settings = put_setting (key, text) value.settings })) tt (put_grants value key text)
-makes_granted accepted value (ask.Remove key) = remove_grants value key
-makes_granted accepted value (ask.Exclude ids) = exclude_makes value ids _ _
-makes_granted accepted value (ask.Clear wait) = clear_makes value wait (cleared_of value.exclusions value.members wait)
-makes_granted accepted value ask.State = tt
+makes_granted second accepted value (ask.Remove key) = remove_grants value key
+makes_granted second accepted value (ask.Exclude ids) = exclude_makes value ids _ _
+makes_granted second accepted value (ask.Clear wait) = clear_makes value wait (cleared_of value.exclusions value.members wait)
+makes_granted second accepted value ask.State = either value ask.State second (Makes value) (AnsweredAtOnce (answer.State accepted)) (state_grants value) tt
 
 -- ---- the value under a key
 
@@ -182,12 +185,12 @@ clearing_says : (key : List ℕ) (value : ClusterValue) (wait : Bool) (r : Resul
 clearing_says key value wait (Ok u) = refl
 clearing_says key value wait (Err still) = tt
 
-pub makes_said : (key : List ℕ) (accepted : ClusterState) (value : ClusterValue) (a : Ask) → MakesSaid key value a (processing accepted value a)
-makes_said key accepted value (ask.Put k text) =
+pub makes_said : (key : List ℕ) (second : Bool) (accepted : ClusterState) (value : ClusterValue) (a : Ask) → MakesSaid key value a (processing second accepted value a)
+makes_said key second accepted value (ask.Put k text) =
     either_says key value (ask.Put k text) (not (has k (map (λ t. t.0) value.settings)) && nat_le most_settings (length value.settings))
     (AnsweredAtOnce (answer.TooManySettings (most_settings + 1))) (Makes (record value { settings = put_setting (k, text) value.settings })) tt
     (put_says key k text value.settings (bytes_eq k key) refl)
-makes_said key accepted value (ask.Remove k) = remove_says key k value.settings (bytes_eq k key) refl
-makes_said key accepted value (ask.Exclude ids) = excluding_says key value ids (added_of value.exclusions ids)
-makes_said key accepted value (ask.Clear wait) = clearing_says key value wait (cleared_of value.exclusions value.members wait)
-makes_said key accepted value ask.State = tt
+makes_said key second accepted value (ask.Remove k) = remove_says key k value.settings (bytes_eq k key) refl
+makes_said key second accepted value (ask.Exclude ids) = excluding_says key value ids (added_of value.exclusions ids)
+makes_said key second accepted value (ask.Clear wait) = clearing_says key value wait (cleared_of value.exclusions value.members wait)
+makes_said key second accepted value ask.State = either_says key value ask.State second (Makes value) (AnsweredAtOnce (answer.State accepted)) refl tt

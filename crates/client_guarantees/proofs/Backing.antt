@@ -93,6 +93,7 @@ pub record IsPublishedAt (h : History) (n : Id) (g : NodeHistory) (version : ℕ
   pub as_published : Published
   pub is_in : Contains (published h) as_published
   pub is_state : as_published.state ≡ state_of (node_state g) version config value
+  pub parent : as_published.parent ≡ accepted_of g
   pub publisher : as_published.publisher ≡ n
   pub not_yet : (q : History) → IsPrefix q h → Begins (node_history q n) g → (p : Published) → Contains (published q) p
       → id_of p.state ≢ record { term = term_of g; version = version }
@@ -237,6 +238,7 @@ module _ (h : History) (root : ClusterState) (W : IsSystem (node_history h) root
         as_published = p;
         is_in = is_in;
         is_state = refl;
+        parent = ap accepted_of m.deeds_are;
         publisher = refl;
         not_yet = λ q i e o c same.
             let at = listed published (λ x n a o. published_by x n o) refl (λ x n a o. refl) q o c in

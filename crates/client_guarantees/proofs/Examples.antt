@@ -237,10 +237,22 @@ acked_by_others : (next_answers (replaced true) put_again ≡ []) × (is_nothing
 unfolding processed_by next_value config_for next_config is_accepted is_nothing_new next_answers
 acked_by_others = (refl, refl)
 
--- of exclusions none is a write: one that changes nothing, of a node that does not vote, is acked at once by both
+-- so it is with an exclusion that changes nothing, of nodes that do not vote
 abbrev exclude_again : Tasks
 exclude_again = only (record { conn = 5; arrived = 8; request = record { id = 9; ask = ask.Exclude [] }; processed = false } ∷ [])
 
-excluded_at_once : next_answers (replaced true) exclude_again ≡ record { conn = 5; reply = reply.To 9 (answer.Acked (id 1 2)) } ∷ []
+excluded_by_others : (next_answers (replaced true) exclude_again ≡ []) × (is_nothing_new (replaced true) exclude_again ≡ false)
 unfolding processed_by next_value config_for next_config is_accepted is_nothing_new next_answers
-excluded_at_once = refl
+excluded_by_others = (refl, refl)
+
+-- and with one that asks to be shown the state: by the first profile it is shown the state that the node has accepted, by the second it waits
+abbrev show : Tasks
+show = only (record { conn = 5; arrived = 8; request = record { id = 9; ask = ask.State }; processed = false } ∷ [])
+
+shown_at_once : next_answers (replaced false) show ≡ record { conn = 5; reply = reply.To 9 (answer.State second) } ∷ []
+unfolding processed_by next_value config_for next_config is_accepted is_nothing_new next_answers
+shown_at_once = refl
+
+shown_by_others : (next_answers (replaced true) show ≡ []) × (is_nothing_new (replaced true) show ≡ false)
+unfolding processed_by next_value config_for next_config is_accepted is_nothing_new next_answers
+shown_by_others = (refl, refl)

@@ -38,7 +38,7 @@ use Rattle.client_guarantees.proofs.Steady.{Standing}
 use Rattle.client_guarantees.proofs.Leading.{IsIdle, Stands, IsReady, stands-idle, ready-stands, stands-waiting, refused-stands, stands-publish, stands-commit, stands-response, stands-join, stands-value}
 use Rattle.client_guarantees.proofs.Folding.{Each, each-map, IsAmong, Of}
 use Rattle.client_guarantees.proofs.Backing.{Backs}
-use Rattle.client_guarantees.proofs.Telling.{Basis, IsNewFor, Renews, Place, place}
+use Rattle.client_guarantees.proofs.Telling.{Basis, IsNewFor, Place, place}
 
 -- The state that a node published last is published, and has what was processed since some moment, unless a later request may have undone it. The requests that wait and are processed were processed since, and the
 -- state is new for them.
@@ -99,7 +99,7 @@ module _ (h : History) (s : Settings) (P : Basis) where
   ready-holds x i = record { ready = ready-stands h s x.stands i.stands; made = i.made; came = i.came }
 
   -- where more came
-  pub holds-more : (R : Basis) → ((conn : ℕ) (r : Request) → R.came conn r → P.came conn r) → ((conn : ℕ) (r : Request) (id : StateId) → R.anew conn r id → P.anew conn r id) → (x : Place) → Holds h s R x → Holds h s P x
+  pub holds-more : (R : Basis) → ((conn : ℕ) (r : Request) → R.came conn r → P.came conn r) → ((w : Waiting) (id : StateId) → R.anew w id → P.anew w id) → (x : Place) → Holds h s R x → Holds h s P x
   holds-more R f n x i = record {
     stands = i.stands;
     made = λ l p.
@@ -113,7 +113,7 @@ module _ (h : History) (s : Settings) (P : Basis) where
           processed = m.processed;
           had = m.had;
           among = m.among;
-          new = each-map (λ w. w.processed ≡ true → IsNewFor s R (published_id x.stands.node) w) (λ w. w.processed ≡ true → IsNewFor s P (published_id x.stands.node) w) (λ w k t y z. n w.conn w.request (published_id x.stands.node) (k t y z)) x.stands.waiting m.new;
+          new = each-map (λ w. w.processed ≡ true → IsNewFor s R (published_id x.stands.node) w) (λ w. w.processed ≡ true → IsNewFor s P (published_id x.stands.node) w) (λ w k t y. n w (published_id x.stands.node) (k t y)) x.stands.waiting m.new;
         };
     came = each-map (Of R.came) (Of P.came) (λ w q. f w.conn w.request q) x.stands.waiting i.came;
   }
@@ -172,10 +172,11 @@ module _ (h : History) (s : Settings) (P : Basis) where
 
   -- a publication begins, of a value that has what was processed
   pub holds-value : (v : View) (g older done : List Waiting) (version : ℕ) (config : List Id) (value : ClusterValue) (r : ActReply) → is_taken r ≡ true → is_leader v.mode ≡ true → v.node.election_won ≡ true
-      → Backs h v.node (Value version config value) r × Renews P v.node (Value version config value) r → g ≡ older ++ done → MeetsEach value done → Each (λ w. w.processed ≡ true → IsAmong done w) v.tasks.waiting → Each (Of P.came) v.tasks.waiting
+      → Backs h v.node (Value version config value) r → Each (λ w. w.processed ≡ true → IsNewFor s P (record { term = v.node.term; version = version }) w) v.tasks.waiting
+      → g ≡ older ++ done → MeetsEach value done → Each (λ w. w.processed ≡ true → IsAmong done w) v.tasks.waiting → Each (Of P.came) v.tasks.waiting
       → Holds h s P (place (moved s v (Acts (Value version config value) (Answered r))) g)
-  holds-value v g older done version config value (Taken sends wins) t l won b e a w c =
-      let p = b.0 refl in
+  holds-value v g older done version config value (Taken sends wins) t l won b n e a w c =
+      let p = b refl in
       record {
         stands = stands-value h s v version config value (Taken sends wins) t l won;
         made = λ m q. record {
@@ -187,9 +188,9 @@ module _ (h : History) (s : Settings) (P : Basis) where
           processed = e;
           had = subst (λ (x : ClusterState). MeetsEach x.value done) (sym p.is_state) a;
           among = w;
-          new = each-map (Of P.came) (λ x. x.processed ≡ true → IsNewFor s P (record { term = v.node.term; version = version }) x) (λ x q u y z. b.1 refl x.conn x.request q) v.tasks.waiting c;
+          new = n;
         };
         came = c;
       }
-  holds-value v g older done version config value (Refused x) t l won b e a w c = absurd (true≢false (sym t))
-  holds-value v g older done version config value Stopped t l won b e a w c = absurd (true≢false (sym t))
+  holds-value v g older done version config value (Refused x) t l won b n e a w c = absurd (true≢false (sym t))
+  holds-value v g older done version config value Stopped t l won b n e a w c = absurd (true≢false (sym t))

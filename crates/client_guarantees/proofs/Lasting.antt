@@ -1,5 +1,5 @@
 -- What later states have of earlier ones.
-use Rattle.std.proofs.Common.{◌≡◌, ℕ, Bool, true, false, ◌||◌, Option, None, Some, List, [], ◌∷◌, ◌++◌, refl, sym, ◌∙◌, ap, subst}
+use Rattle.std.proofs.Common.{◌≡◌, ℕ, Bool, true, false, ◌||◌, Option, None, Some, List, [], ◌∷◌, ◌++◌, refl, sym, ◌∙◌, ap, subst, inl, inr}
 use Rattle.std.specs.List.{Contains, list_any}
 use Rattle.std.proofs.lemmas.Bool.{both_ways, or_parts}
 use Rattle.voting_config.specs.Ids.{Id}
@@ -15,12 +15,11 @@ use Rattle.world_model.specs.Safety.{Published, published, IsCommitted, Descends
 use Rattle.agreement.specs.Agree.{DescendsFromCommitted}
 use Rattle.agreement.proofs.Laws.{safe_of_legal}
 use Rattle.policy_model.specs.declared.settings.Settings.{Settings}
-use Rattle.policy_model.specs.Events.{Log}
+use Rattle.policy_model.specs.Events.{Item, Log, NoItems, And, added}
 use Rattle.policy_model.specs.Entries.{Life}
-use Rattle.policy_model.specs.Parts.{as_master}
-use Rattle.policy_model.specs.LookBacks.{node_of, tasks_of}
+use Rattle.policy_model.specs.LookBacks.{node_of, tasks_of, master_of}
 use Rattle.client_guarantees.specs.Asked.{MeetsEach, Meets, is_about, may_undo, setting_under, setting_after, setting_after_all}
-use Rattle.client_guarantees.specs.Lasting.{IsMadeAt, Itself, Over, Lasts, AckLasts}
+use Rattle.client_guarantees.specs.Lasting.{IsPartOf, IsMadeAt, Itself, Over, Lasts, AckLasts}
 use Rattle.client_guarantees.proofs.Folding.{last_setting_stands}
 
 -- ---- requests one after another
@@ -77,6 +76,16 @@ stands key o value w (u ∷ later) m e = from (are_about key (u ∷ later)) refl
         → setting_under key value.settings ≡ setting_after_all key (setting_after key o w.request.ask) (u ∷ later)
     from true n rest = rest n
     from false n rest = own (is_about key w.request.ask) refl n
+
+-- ---- moments of a log
+
+pub part-self : (l : Log) → IsPartOf l l
+part-self NoItems = refl
+part-self (And l i) = inl refl
+
+pub part-added : (m l : Log) (is : List Item) → IsPartOf m l → IsPartOf m (added l is)
+part-added m l [] p = p
+part-added m l (i ∷ is) p = part-added m (And l i) is (inr p)
 
 -- ---- states one over another
 

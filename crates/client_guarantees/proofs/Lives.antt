@@ -5,13 +5,13 @@ use Rattle.std.proofs.lemmas.Bool.{both_ways, and_parts}
 use Rattle.std.proofs.lemmas.List.{append-nil}
 use Rattle.std.proofs.lemmas.List.Elements.{All-nil, All-cons, All-head, All-tail, Contains-append_left, Contains-append_right}
 use Rattle.cluster_state.specs.declared.state.ClusterState.{ClusterState}
-use Rattle.cluster_state.specs.declared.state.StateId.{StateId}
 use Rattle.cluster_state.specs.States.{id_of}
 use Rattle.cluster_state.specs.declared.reply.Answer.TheVariants as answer
 use Rattle.cluster_state.specs.declared.reply.Reply.{Reply}
 use Rattle.cluster_state.specs.declared.reply.Reply.TheVariants as reply
 use Rattle.master_tasks.specs.declared.waiting.Waiting.{Waiting}
 use Rattle.master_tasks.specs.declared.waiting.Outgoing.{Outgoing}
+use Rattle.master_tasks.specs.NextState.{next_value}
 use Rattle.world_model.specs.declared.acts.Act.{Act}
 use Rattle.world_model.specs.declared.acts.Act.TheVariants.{Bootstrap, StartJoin, TakeJoin, Value, Publish, Response, Commit, Open}
 use Rattle.world_model.specs.declared.acts.ActReply.{ActReply}
@@ -22,14 +22,16 @@ use Rattle.world_model.specs.NodeState.{NodeState, node_state, term_of, durable_
 use Rattle.world_model.specs.Replies.{reply_at}
 use Rattle.world_model.specs.Histories.{History, node_history}
 use Rattle.world_model.specs.Local.{then_run, OpensWith}
+use Rattle.world_model.specs.Safety.{Published, Descends, Itself, Child}
 use Rattle.world_model.proofs.System.{IsSystem}
 use Rattle.world_model.proofs.Moments.{Begins as IsBeginning, begins_self, begins_trans}
 use Rattle.policy_model.specs.declared.settings.Settings.{Settings}
 use Rattle.policy_model.specs.declared.events.Event.{Event}
 use Rattle.policy_model.specs.Events.{Met, Heard, PeersAsked, ElectionOff, ElectionSet, RoundBegun, RoundAnswered, RoundEnded, Joined, FollowersChecked, FollowerAnswered, LeaderChecked, LeaderAnswered, Queued, ExclusionsTimedOut, CommitAcked, AppliedAnswered, StateMade, HandedOver, PeerLost, LeaderLost, Item, Log, Opens, Begins, Acts, ChangesMode, Drops, Sends, Replies, Notes, And, added, acts_of}
 use Rattle.policy_model.specs.Entries.{Life, NotBegun, Opened, Lived, Did, Gone, Bad, NoMemory, Unread, log_of, replies_of}
-use Rattle.policy_model.specs.LookBacks.{node_of}
-use Rattle.policy_model.specs.Views.{View, view_of}
+use Rattle.policy_model.specs.LookBacks.{node_of, master_of, tasks_of}
+use Rattle.policy_model.specs.Parts.{published_id}
+use Rattle.policy_model.specs.Views.{View, view_of, master_now}
 use Rattle.policy_model.specs.Moves.{moved, moved_all, is_own, are_own, view_of-And}
 use Rattle.policy_model.specs.Local.{IsAnswered, ByAct, ByQuiet, Ended, is_quiet}
 use Rattle.policy_model.specs.Follows.{Follows, IsStruck, is_struck, items_of}
@@ -37,16 +39,19 @@ use Rattle.policy_model.proofs.Answering.{answered-next}
 use Rattle.policy_model.proofs.Standing.{view_of-added, own-quiet, own-answered}
 use Rattle.policy_model.proofs.Locals.{struck_fault}
 use Rattle.policy_model.proofs.Faults.{struck-replies}
-use Rattle.client_guarantees.specs.Processed.{processed_of, CameAt, last_id}
+use Rattle.client_guarantees.specs.Processed.{processed_into_next, processed_of, CameIn, CameAt, last_id}
 use Rattle.client_guarantees.specs.Replies.{IsTrueReply, RepliesTruly}
+use Rattle.client_guarantees.specs.Lasting.{IsPartOf}
 use Rattle.client_guarantees.specs.Laws.{IsRunIn}
-use Rattle.client_guarantees.specs.InTime.{IsPublishedSince, IsAckedInTime}
+use Rattle.client_guarantees.specs.InTime.{IsPublishedSince, HasPlace, IsRepliedInTime}
 use Rattle.client_guarantees.proofs.Running.{begins-run, begins-within, node-within}
-use Rattle.client_guarantees.proofs.Backing.{Backs, backs, unique, value_published}
-use Rattle.client_guarantees.proofs.Telling.{Renews, processed_after, processed_after_all, Up, ReplyIsTrue, place, AllTrue, AreBacked, Ends, Keeps}
+use Rattle.client_guarantees.proofs.Backing.{Backs, backs, IsPublishedAt, IsUnique, unique, value_published}
+use Rattle.client_guarantees.proofs.Telling.{WasNewFor, Renews, Processes, processed_after, processed_after_all, Up, ReplyIsTrue, place, AllTrue, AreBacked, Ends, Keeps}
+use Rattle.client_guarantees.proofs.Folding.{IsAmong, among_contains}
+use Rattle.client_guarantees.proofs.Lasting.{part-self, part-added}
 use Rattle.client_guarantees.proofs.Holding.{Holds, holds-idle, holds-more}
 use Rattle.client_guarantees.proofs.Queued.{processed_was_queued}
-use Rattle.client_guarantees.proofs.Newest.{up-same, up-trans, up-act, quiet_acts, low_of, begun_of, basis, came_in, since_later, CameOver, came_over}
+use Rattle.client_guarantees.proofs.Newest.{up-same, up-trans, up-act, quiet_acts, low_of, begun_of, basis, came_in, CameSince, WasProcessed, IsNew, new_later, CameOver, came_over}
 use Rattle.client_guarantees.proofs.Rules.{keeps-next}
 
 -- the acts before an item begin those with it
@@ -142,7 +147,13 @@ true_at h s g life f conn (reply.To number (answer.Acked id)) t = record {
     over : CameOver life t.request.conn t.request.request
     over = came_over s life f t.request.conn t.request.request (processed_was_queued s (log_of life) t.request is_in)
 true_at h s g life f conn (reply.To number (answer.State state)) t =
-    record { request = t.request; has_number = t.has_number; is_asked = t.is_asked; came = came_in life conn t.request t.came.so_far t.came.came; committed = t.committed }
+    record {
+      request = t.request.request;
+      has_number = t.has_number;
+      is_asked = t.is_asked;
+      came = subst (λ (c : ℕ). CameIn life c t.request.request) t.has_conn (came_in life t.request.conn t.request.request t.came.so_far t.came.came);
+      committed = t.committed;
+    }
 true_at h s g life f conn (reply.To number (answer.NotMaster leader)) t = tt
 true_at h s g life f conn (reply.To number (answer.BadSetting length)) t = tt
 true_at h s g life f conn (reply.To number (answer.QueueFull count)) t = tt
@@ -163,20 +174,36 @@ all_true_at : (h : History) (s : Settings) (g : NodeHistory) (life : Life) → F
     → All (λ (out : Outgoing). IsTrueReply h s life out.conn out.reply) outs
 all_true_at h s g life f = each_at h s g life (λ (out : Outgoing). IsTrueReply h s life out.conn out.reply) (λ out. true_at h s g life f out.conn out.reply)
 
--- an ack by the second profile
+-- a reply by the second profile
 abbrev pub InTime : History → Settings → NodeHistory → Life → Outgoing → Type 0
-InTime h s g life out = (number : ℕ) (id : StateId) → out.reply ≡ reply.To number (answer.Acked id) → IsAckedInTime h s g life out.conn number id
+InTime h s g life out = IsRepliedInTime h s g life out.conn out.reply
 
-in_time_at : (h : History) (s : Settings) (g : NodeHistory) (life : Life) → Follows s life → s.policy.second ≡ true
-    → (out : Outgoing) → ReplyIsTrue h s (basis h s g life) (processed_of s (log_of life)) out.conn out.reply → InTime h s g life out
+in_time_at : (h : History) → IsUnique h → (s : Settings) (g : NodeHistory) (life : Life) → Follows s life → s.policy.second ≡ true
+    → (conn : ℕ) (r : Reply) → ReplyIsTrue h s (basis h s g life) (processed_of s (log_of life)) conn r → IsRepliedInTime h s g life conn r
 unfolding true_at
-in_time_at h s g life f second out t number id e = from (subst (ReplyIsTrue h s (basis h s g life) (processed_of s (log_of life)) out.conn) e t)
-  where
-    from : ReplyIsTrue h s (basis h s g life) (processed_of s (log_of life)) out.conn (reply.To number (answer.Acked id)) → IsAckedInTime h s g life out.conn number id
-    from k = record {
-      ack = true_at h s g life f out.conn (reply.To number (answer.Acked id)) k;
-      since = λ w. subst (λ (c : ℕ). IsPublishedSince h s g life c k.request.request id) k.has_conn (k.is_new second w);
+in_time_at h U s g life f second conn (reply.BadLine fault) t = tt
+in_time_at h U s g life f second conn (reply.To number (answer.Acked id)) t =
+    let n : IsNew h s g life t.request id = t.is_new second in
+    let same = U.same n.since.as_published t.as_published n.since.is_in t.is_committed.0 (n.since.is_id ∙ sym t.is_id) in
+    record {
+      ack = true_at h s g life f conn (reply.To number (answer.Acked id)) t;
+      since = subst (λ (c : ℕ). IsPublishedSince h s g life c t.request.request id) t.has_conn n.since;
+      place = subst (λ (p : Published). HasPlace h s g life t.request p.state) same n.place;
     }
+in_time_at h U s g life f second conn (reply.To number (answer.State state)) t =
+    let n : IsNew h s g life t.request (id_of state) = t.is_new second in
+    record {
+      shown = true_at h s g life f conn (reply.To number (answer.State state)) t;
+      since = subst (λ (c : ℕ). IsPublishedSince h s g life c t.request.request (id_of state)) t.has_conn n.since;
+    }
+in_time_at h U s g life f second conn (reply.To number (answer.NotMaster leader)) t = tt
+in_time_at h U s g life f second conn (reply.To number (answer.BadSetting length)) t = tt
+in_time_at h U s g life f second conn (reply.To number (answer.QueueFull count)) t = tt
+in_time_at h U s g life f second conn (reply.To number (answer.TooManySettings count)) t = tt
+in_time_at h U s g life f second conn (reply.To number (answer.TooManyExclusions count)) t = tt
+in_time_at h U s g life f second conn (reply.To number (answer.StillMember id)) t = tt
+in_time_at h U s g life f second conn (reply.To number (answer.FailedToCommit term)) t = tt
+in_time_at h U s g life f second conn (reply.To number (answer.ExclusionTimeout ids)) t = tt
 
 -- a run of the node, what it did before the run, and what the history has of it
 module _ (h : History) (root : ClusterState) (W : IsSystem (node_history h) root) (s : Settings) (g r : NodeHistory)
@@ -186,23 +213,69 @@ module _ (h : History) (root : ClusterState) (W : IsSystem (node_history h) root
       let whole = begins_trans (then_run g (Then p act (Answered reply))) (then_run g r) (node_history h s.me) (begins-within g (Then p act (Answered reply)) r b) is_in in
       subst (λ (n : NodeState). Backs h n act reply) (node-within g r p act (Answered reply) opens closed b) (backs h root W s.me (then_run g p) act reply whole)
 
-  -- a value is published after who came, where the node had done at least what it had as the event began
-  renews : (now : Life) (p : NodeHistory) (act : Act) (reply : ActReply) → IsBeginning (acts_of (begun_of now)) p → IsBeginning (Then p act (Answered reply)) r → Renews (basis h s g now) (node_state p) act reply
-  renews now p (Value version config value) (Taken sends w) k b = λ t conn request came.
-      let whole = begins_trans (then_run g (Then p (Value version config value) (Answered (Taken sends w)))) (then_run g r) (node_history h s.me) (begins-within g (Then p (Value version config value) (Answered (Taken sends w))) r b) is_in in
-      let a = value_published h root W s.me (then_run g p) version config value sends w whole in
-      let term : term_of (then_run g p) ≡ term_of p = ap (λ (n : NodeState). n.term) (node-within g r p (Value version config value) (Answered (Taken sends w)) opens refl b) in
-      let id : id_of a.as_published.state ≡ record { term = term_of p; version = version } = ap id_of a.is_state ∙ ap (λ (x : ℕ). record { term = x; version = version }) term in
-      record {
+  -- a value is published after those requests came that were processed into it, and those for which the last one was new
+  renews : (now : Life) (p : NodeHistory) (act : Act) (reply : ActReply) → IsBeginning (acts_of (begun_of now)) p → IsBeginning (Then p act (Answered reply)) r → Renews h (basis h s g now) (node_state p) act reply
+  renews now p (Value version config value) (Taken sends w) k b = λ t wait came cause. record { since = since wait came; place = place wait came cause }
+    where
+      whole : IsBeginning (Then (then_run g p) (Value version config value) (Answered (Taken sends w))) (node_history h s.me)
+      whole = begins_trans (then_run g (Then p (Value version config value) (Answered (Taken sends w)))) (then_run g r) (node_history h s.me) (begins-within g (Then p (Value version config value) (Answered (Taken sends w))) r b) is_in
+
+      a : IsPublishedAt h s.me (then_run g p) version config value
+      a = value_published h root W s.me (then_run g p) version config value sends w whole
+
+      same_node : node_state (then_run g p) ≡ node_state p
+      same_node = node-within g r p (Value version config value) (Answered (Taken sends w)) opens refl b
+
+      term : term_of (then_run g p) ≡ term_of p
+      term = ap (λ (n : NodeState). n.term) same_node
+
+      parent : a.as_published.parent ≡ (node_state p).accepted
+      parent = a.parent ∙ ap (λ (n : NodeState). n.accepted) same_node
+
+      since : (wait : Waiting) → CameSince now wait.conn wait.request → IsPublishedSince h s g now wait.conn wait.request (record { term = term_of p; version = version })
+      since wait came = record {
         so_far = came.so_far;
         came = came.came;
         as_published = a.as_published;
         is_in = a.is_in;
         publisher = a.publisher;
-        is_id = id;
+        is_id = ap id_of a.is_state ∙ ap (λ (x : ℕ). record { term = x; version = version }) term;
         not_yet = λ q m o c same.
             let low : IsBeginning (then_run g (acts_of (log_of came.so_far))) (then_run g p) = begins-within g (acts_of (log_of came.so_far)) p (begins_trans (acts_of (log_of came.so_far)) (acts_of (begun_of now)) p came.begins k) in
             a.not_yet q m.part (subst (λ (x : NodeHistory). IsBeginning x (then_run g p)) (sym m.acts) low) o c (same ∙ sym (ap (λ (x : ℕ). record { term = x; version = version }) term));
+      }
+
+      -- the accepted state is the one that the last one is
+      over_last : (wait : Waiting) (old : WasNewFor h (basis h s g now) (node_state p) wait) → old.new.since.as_published.state ≡ a.as_published.parent
+      over_last wait old =
+          let c = old.committed in
+          let id : id_of (node_state p).accepted ≡ published_id (node_state p) = λ i. record { term = old.last.term i; version = old.last.version i } in
+          ap (λ (x : Published). x.state) ((unique h root W).same old.new.since.as_published c.as_published old.new.since.is_in c.is_committed.0 (old.new.since.is_id ∙ sym (ap id_of c.is_state ∙ id)))
+          ∙ c.is_state ∙ sym parent
+
+      place : (wait : Waiting) → CameSince now wait.conn wait.request → WasProcessed s now wait (node_state p) value ⊎ WasNewFor h (basis h s g now) (node_state p) wait → HasPlace h s g now wait a.as_published.state
+      place wait came (inl mark) = record {
+        id = record { term = term_of p; version = version };
+        since = since wait came;
+        into = record {
+          moment = mark.moment;
+          part = mark.part;
+          requests = processed_into_next (master_of s mark.moment) (tasks_of s mark.moment);
+          made = record {
+            publisher = a.publisher;
+            parent = parent ∙ ap (λ (n : NodeState). n.accepted) (sym mark.is_node);
+            value = ap (λ (x : ClusterState). x.value) a.is_state ∙ sym mark.is_value;
+            processed = refl;
+          };
+          is_among = among_contains (processed_into_next (master_of s mark.moment) (tasks_of s mark.moment)) wait mark.is_among;
+        };
+        descends = Itself;
+      }
+      place wait came (inr old) = record {
+        id = old.new.place.id;
+        since = old.new.place.since;
+        into = old.new.place.into;
+        descends = Child a.as_published a.is_in (subst (Descends h old.new.place.since.as_published.state) (over_last wait old) old.new.place.descends);
       }
   renews now p (Value version config value) (Refused c) k b = λ t. absurd (true≢false (sym t))
   renews now p (Value version config value) Stopped k b = λ t. absurd (true≢false (sym t))
@@ -216,21 +289,39 @@ module _ (h : History) (root : ClusterState) (W : IsSystem (node_history h) root
 
   -- the event that comes last
   module _ (now : Life) where
-    quietly : (v : View) (i : Item) (is : List Item) → is_quiet i ≡ true → Up (low_of now) (last_id v.node) → AreBacked h s (basis h s g now) (moved s v i) is → AreBacked h s (basis h s g now) v (i ∷ is)
-    quietly v (Opens found) is e u a = cc
-    quietly v (Begins event) is e u a = cc
-    quietly v (Acts act o) is e u a = cc
-    quietly v (ChangesMode mode term) is e u a = (tt, a)
-    quietly v (Drops member cause) is e u a = (tt, a)
-    quietly v (Sends frame) is e u a = (tt, a)
-    quietly v (Replies answer) is e u a = (u, a)
-    quietly v (Notes note) is e u a = (tt, a)
+    -- the requests that are processed here
+    processes : (l : Log) (v : View) (i : Item) (is : List Item) → v ≡ view_of s l → added l (i ∷ is) ≡ log_of now → Processes s (basis h s g now) v i
+    processes l v (Notes StateMade) is e whole = λ w k. record {
+      moment = l;
+      part = subst (IsPartOf l) whole (part-added l (And l (Notes StateMade)) is (inr (part-self l)));
+      is_node = ap (λ (x : View). x.node) (sym e);
+      is_value = ap (λ (x : View). next_value (master_now s x) x.tasks) (sym e);
+      is_among = subst (λ (x : View). IsAmong (processed_into_next (master_now s x) x.tasks) w) e k;
+    }
+    processes l v (Notes note) is e whole = tt
+    processes l v (Opens found) is e whole = tt
+    processes l v (Begins event) is e whole = tt
+    processes l v (Acts act o) is e whole = tt
+    processes l v (ChangesMode mode term) is e whole = tt
+    processes l v (Drops member cause) is e whole = tt
+    processes l v (Sends frame) is e whole = tt
+    processes l v (Replies answer) is e whole = tt
+
+    quietly : (v : View) (i : Item) (is : List Item) → is_quiet i ≡ true → Up (low_of now) (last_id v.node) → Processes s (basis h s g now) v i → AreBacked h s (basis h s g now) (moved s v i) is → AreBacked h s (basis h s g now) v (i ∷ is)
+    quietly v (Opens found) is e u m a = cc
+    quietly v (Begins event) is e u m a = cc
+    quietly v (Acts act o) is e u m a = cc
+    quietly v (ChangesMode mode term) is e u m a = (tt, a)
+    quietly v (Drops member cause) is e u m a = (tt, a)
+    quietly v (Sends frame) is e u m a = (tt, a)
+    quietly v (Replies answer) is e u m a = (u, a)
+    quietly v (Notes note) is e u m a = (m, a)
 
     -- the history backs the acts of a part of what the node does, which stand in its log
-    backed : (l : Log) (v : View) (xs prefix rest : List Item) → IsAnswered s v xs → xs ≡ prefix ++ rest → v ≡ view_of s l → Up (low_of now) (last_id (node_of l)) → IsBeginning (acts_of (begun_of now)) (acts_of l) → IsBeginning (acts_of (added l prefix)) r → AreBacked h s (basis h s g now) v prefix
-    backed l v xs [] rest a same e u k b = tt
-    backed l v xs (f ∷ fs) rest (Ended w) same e u k b = absurd (cc)
-    backed l v xs (f ∷ fs) rest (ByAct w act is o a) same e u k b =
+    backed : (l : Log) (v : View) (xs prefix rest : List Item) → IsAnswered s v xs → xs ≡ prefix ++ rest → added l xs ≡ log_of now → v ≡ view_of s l → Up (low_of now) (last_id (node_of l)) → IsBeginning (acts_of (begun_of now)) (acts_of l) → IsBeginning (acts_of (added l prefix)) r → AreBacked h s (basis h s g now) v prefix
+    backed l v xs [] rest a same whole e u k b = tt
+    backed l v xs (f ∷ fs) rest (Ended w) same whole e u k b = absurd (cc)
+    backed l v xs (f ∷ fs) rest (ByAct w act is o a) same whole e u k b =
         let i : Item = Acts act (Answered (reply_at s.me w.node act)) in
         let own : is_own i ≡ true = rw o refl in
         let head : Acts act (Answered (reply_at s.me w.node act)) ≡ f = cc in
@@ -239,17 +330,17 @@ module _ (h : History) (root : ClusterState) (W : IsSystem (node_history h) root
         let here = begins_trans (acts_of (And l i)) (acts_of (added (And l i) fs)) r (begins_added (And l i) fs) all in
         let up : Up (low_of now) (last_id (node_of (And l i))) = up-trans (low_of now) (last_id (node_of l)) (last_id (node_of (And l i))) u (up-act s.me (acts_of l) act (reply_at s.me w.node act) o (ap (λ (x : View). reply_at s.me x.node act) e)) in
         subst (λ (x : Item). AreBacked h s (basis h s g now) v (x ∷ fs)) head (
-          subst (λ (x : View). Backs h x.node act (reply_at s.me w.node act) × Renews (basis h s g now) x.node act (reply_at s.me w.node act)) (sym e)
+          subst (λ (x : View). Backs h x.node act (reply_at s.me w.node act) × Renews h (basis h s g now) x.node act (reply_at s.me w.node act)) (sym e)
               (backs-within (acts_of l) act (reply_at s.me w.node act) o here, renews now (acts_of l) act (reply_at s.me w.node act) k here),
-          backed (And l i) (moved s w i) is fs rest a tail (ap (λ (x : View). moved s x i) e ∙ sym (view_of-And s l i own)) up (begins_trans (acts_of (begun_of now)) (acts_of l) (acts_of (And l i)) k (begins_item l i)) all,
+          backed (And l i) (moved s w i) is fs rest a tail whole (ap (λ (x : View). moved s x i) e ∙ sym (view_of-And s l i own)) up (begins_trans (acts_of (begun_of now)) (acts_of l) (acts_of (And l i)) k (begins_item l i)) all,
         )
-    backed l v xs (f ∷ fs) rest (ByQuiet w i is q a) same e u k b =
+    backed l v xs (f ∷ fs) rest (ByQuiet w i is q a) same whole e u k b =
         let head : i ≡ f = cc in
         let tail : is ≡ fs ++ rest = cc in
         let all : IsBeginning (acts_of (added (And l i) fs)) r = subst (λ (x : Item). IsBeginning (acts_of (added (And l x) fs)) r) (sym head) b in
         subst (λ (x : Item). AreBacked h s (basis h s g now) v (x ∷ fs)) head
-        (quietly w i fs q (subst (λ (x : View). Up (low_of now) (last_id x.node)) (sym e) u)
-        (backed (And l i) (moved s w i) is fs rest a tail (ap (λ (x : View). moved s x i) e ∙ sym (view_of-And s l i (own-quiet i q))) (subst (λ (g : NodeHistory). Up (low_of now) (last_id (node_state g))) (sym (quiet_acts l i q)) u)
+        (quietly w i fs q (subst (λ (x : View). Up (low_of now) (last_id x.node)) (sym e) u) (processes l w i is e whole)
+        (backed (And l i) (moved s w i) is fs rest a tail whole (ap (λ (x : View). moved s x i) e ∙ sym (view_of-And s l i (own-quiet i q))) (subst (λ (g : NodeHistory). Up (low_of now) (last_id (node_state g))) (sym (quiet_acts l i q)) u)
         (begins_trans (acts_of (begun_of now)) (acts_of l) (acts_of (And l i)) k (begins_item l i)) all))
 
   abbrev Stood : Life → Type 0
@@ -266,7 +357,7 @@ module _ (h : History) (root : ClusterState) (W : IsSystem (node_history h) root
       let now = Lived life (Did e (items_of s (log_of life) e)) in
       let before : Holds h s (basis h s g (Lived life (Did e (items_of s (log_of life) e)))) (place (view_of s (And (log_of life) (Begins e))) (processed_of s (log_of life))) =
       holds-more h s (basis h s g (Lived life (Did e (items_of s (log_of life) e)))) (basis h s g life) (λ c r k. record { so_far = k.so_far; came = inr k.came; begins = begins_trans (acts_of (log_of k.so_far)) (acts_of (begun_of life)) (acts_of (log_of life)) k.begins (begun_before life) })
-      (λ c r id k. since_later h s g life now c r id (λ so_far a. inr a) k) (place (view_of s (And (log_of life) (Begins e))) (processed_of s (log_of life))) (t.stands f.1.up) in
+      (λ w id k. new_later h s g life now w id (record { came = λ c r so_far a. inr a; parts = λ m p. part-added m (log_of life) (Begins e ∷ items_of s (log_of life) e) p }) k) (place (view_of s (And (log_of life) (Begins e))) (processed_of s (log_of life))) (t.stands f.1.up) in
       keeps-next h (unique h root W) s (basis h s g now) (view_of s (And (log_of life) (Begins e))) (processed_of s (log_of life)) e (λ c r k. record { so_far = life; came = inl (k, refl); begins = begins_self (acts_of (log_of life)) }) before
 
   -- the replies of a part of it are true, where the history has the acts of this part
@@ -277,7 +368,7 @@ module _ (h : History) (root : ClusterState) (W : IsSystem (node_history h) root
       let v = view_of s (And (log_of life) (Begins e)) in
       let items = items_of s (log_of life) e in
       let told : AllTrue h s (basis h s g (Lived life (Did e (items_of s (log_of life) e)))) (processed_after_all s (view_of s (And (log_of life) (Begins e))) (processed_of s (log_of life)) (items_of s (log_of life) e)) (replies_of prefix) =
-      (keeps-event life e f t).within prefix rest whole (backed (Lived life (Did e (items_of s (log_of life) e))) log v items prefix rest (answered-next s v e) whole refl (up-same (last_id (node_of (log_of life)))) (begins_self (acts_of (log_of life))) b) in
+      (keeps-event life e f t).within prefix rest whole (backed (Lived life (Did e (items_of s (log_of life) e))) log v items prefix rest (answered-next s v e) whole refl refl (up-same (last_id (node_of (log_of life)))) (begins_self (acts_of (log_of life))) b) in
       let processed : processed_of s (added (And (log_of life) (Begins e)) (items_of s (log_of life) e)) ≡ processed_after_all s (view_of s (And (log_of life) (Begins e))) (processed_of s (log_of life)) (items_of s (log_of life) e) = processed-added s log items (own-answered s v items (answered-next s v e)) in
       all_true_at h s g (Lived life (Did e (items_of s (log_of life) e))) f (replies_of prefix) (subst (λ (k : List Waiting). AllTrue h s (basis h s g (Lived life (Did e (items_of s (log_of life) e)))) k (replies_of prefix)) (sym processed) told)
 
@@ -289,7 +380,7 @@ module _ (h : History) (root : ClusterState) (W : IsSystem (node_history h) root
       let log = And (log_of life) (Begins e) in
       let v = view_of s (And (log_of life) (Begins e)) in
       let items = items_of s (log_of life) e in
-      (keeps-event life e f t).ends (backed (Lived life (Did e (items_of s (log_of life) e))) log v items items [] (answered-next s v e) (sym (append-nil items)) refl (up-same (last_id (node_of (log_of life)))) (begins_self (acts_of (log_of life))) b)
+      (keeps-event life e f t).ends (backed (Lived life (Did e (items_of s (log_of life) e))) log v items items [] (answered-next s v e) (sym (append-nil items)) refl refl (up-same (last_id (node_of (log_of life)))) (begins_self (acts_of (log_of life))) b)
 
   processed_by_event : (life : Life) (e : Event) → processed_of s (added (And (log_of life) (Begins e)) (items_of s (log_of life) e)) ≡ processed_after_all s (view_of s (And (log_of life) (Begins e))) (processed_of s (log_of life)) (items_of s (log_of life) e)
   processed_by_event life e =
@@ -317,7 +408,7 @@ module _ (h : History) (root : ClusterState) (W : IsSystem (node_history h) root
             (subst (λ (k : List Waiting). Holds h s (basis h s g (Lived life (Did e (items_of s (log_of life) e)))) (place (moved_all s (view_of s (And (log_of life) (Begins e))) (items_of s (log_of life) e)) k)) (sym (processed_by_event life e)) (event_ends life e f t b).stands);
       }
 
-  -- an event's acks, by the second profile
+  -- an event's replies, by the second profile
   event_in_time : (life : Life) (e : Event) (is : List Item) → s.policy.second ≡ true → Follows s (Lived life (Did e is)) → Told life → IsBeginning (acts_of (log_of (Lived life (Did e is)))) r → All (InTime h s g (Lived life (Did e is))) (replies_of is)
   event_in_time life e is second f t b = by_way f.1.does
     where
@@ -326,7 +417,7 @@ module _ (h : History) (root : ClusterState) (W : IsSystem (node_history h) root
           let now = Lived life (Did e (items_of s (log_of life) e)) in
           let follows : Follows s (Lived life (Did e (items_of s (log_of life) e))) = subst (λ (x : List Item). Follows s (Lived life (Did e x))) same f in
           subst (λ (x : List Item). All (InTime h s g (Lived life (Did e x))) (replies_of x)) (sym same)
-          (each_at h s g now (InTime h s g now) (in_time_at h s g now follows second) (replies_of (items_of s (log_of life) e))
+          (each_at h s g now (InTime h s g now) (λ out. in_time_at h (unique h root W) s g now follows second out.conn out.reply) (replies_of (items_of s (log_of life) e))
           (event_true life e follows t (subst (λ (x : List Item). IsBeginning (acts_of (added (And (log_of life) (Begins e)) x)) r) same b)))
       by_way (inr struck) = subst (All (InTime h s g (Lived life (Did e is)))) (sym (struck-replies (items_of s (log_of life) e) is struck)) (All-nil (InTime h s g (Lived life (Did e is))))
 
@@ -351,10 +442,10 @@ module _ (h : History) (root : ClusterState) (W : IsSystem (node_history h) root
   told (Lived life (Did e is)) f b =
       let before = begins_trans (acts_of (log_of life)) (acts_of (log_of (Lived life (Did e is)))) r (begins_added (And (log_of life) (Begins e)) is) b in
       told_event life e is f (told life f.0 before) b
-  told (Lived life (Gone conn)) f b = let t = told life f.0 b in record { tells = t.tells; stands = λ u. holds-more h s (basis h s g (Lived life (Gone conn))) (basis h s g life) (λ c r k. record { so_far = k.so_far; came = k.came; begins = k.begins }) (λ c r id k. since_later h s g life _ c r id (λ so_far a. a) k) _ (t.stands u) }
-  told (Lived life (Bad conn fault)) f b = let t = told life f.0 b in record { tells = t.tells; stands = λ u. holds-more h s (basis h s g (Lived life (Bad conn fault))) (basis h s g life) (λ c r k. record { so_far = k.so_far; came = k.came; begins = k.begins }) (λ c r id k. since_later h s g life _ c r id (λ so_far a. a) k) _ (t.stands u) }
-  told (Lived life NoMemory) f b = let t = told life f.0 b in record { tells = t.tells; stands = λ u. holds-more h s (basis h s g (Lived life NoMemory)) (basis h s g life) (λ c r k. record { so_far = k.so_far; came = k.came; begins = k.begins }) (λ c r id k. since_later h s g life _ c r id (λ so_far a. a) k) _ (t.stands u) }
-  told (Lived life (Unread conn)) f b = let t = told life f.0 b in record { tells = t.tells; stands = λ u. holds-more h s (basis h s g (Lived life (Unread conn))) (basis h s g life) (λ c r k. record { so_far = k.so_far; came = k.came; begins = k.begins }) (λ c r id k. since_later h s g life _ c r id (λ so_far a. a) k) _ (t.stands u) }
+  told (Lived life (Gone conn)) f b = let t = told life f.0 b in record { tells = t.tells; stands = λ u. holds-more h s (basis h s g (Lived life (Gone conn))) (basis h s g life) (λ c r k. record { so_far = k.so_far; came = k.came; begins = k.begins }) (λ w id k. new_later h s g life _ w id (record { came = λ c r so_far a. a; parts = λ m p. p }) k) _ (t.stands u) }
+  told (Lived life (Bad conn fault)) f b = let t = told life f.0 b in record { tells = t.tells; stands = λ u. holds-more h s (basis h s g (Lived life (Bad conn fault))) (basis h s g life) (λ c r k. record { so_far = k.so_far; came = k.came; begins = k.begins }) (λ w id k. new_later h s g life _ w id (record { came = λ c r so_far a. a; parts = λ m p. p }) k) _ (t.stands u) }
+  told (Lived life NoMemory) f b = let t = told life f.0 b in record { tells = t.tells; stands = λ u. holds-more h s (basis h s g (Lived life NoMemory)) (basis h s g life) (λ c r k. record { so_far = k.so_far; came = k.came; begins = k.begins }) (λ w id k. new_later h s g life _ w id (record { came = λ c r so_far a. a; parts = λ m p. p }) k) _ (t.stands u) }
+  told (Lived life (Unread conn)) f b = let t = told life f.0 b in record { tells = t.tells; stands = λ u. holds-more h s (basis h s g (Lived life (Unread conn))) (basis h s g life) (λ c r k. record { so_far = k.so_far; came = k.came; begins = k.begins }) (λ w id k. new_later h s g life _ w id (record { came = λ c r so_far a. a; parts = λ m p. p }) k) _ (t.stands u) }
 
 -- A run was killed within an event. The replies of a part of it are true, where the history has the acts of this part.
 pub part_replies_true : (h : History) (root : ClusterState) → IsSystem (node_history h) root → (s : Settings) (g r : NodeHistory) → (g ≢ NoActs → OpensWith (durable_of g) r) → IsBeginning (then_run g r) (node_history h s.me)
@@ -369,10 +460,10 @@ replies_true h root W s life is =
     let r : NodeHistory = acts_of (log_of life) in
     (told h root W s is.before r is.begins (subst (IsBeginning (then_run is.before r)) (sym is.acts) (begins-run (then_run is.before r) is.after)) life is.follows (begins_self r)).tells
 
--- each ack of the last event of a run, by the second profile
-pub acks_in_time : (h : History) (root : ClusterState) → IsSystem (node_history h) root → (s : Settings) → s.policy.second ≡ true → (life : Life) (e : Event) (is : List Item) (run : IsRunIn h s (Lived life (Did e is)))
+-- each reply of the last event of a run, by the second profile
+pub replies_in_time : (h : History) (root : ClusterState) → IsSystem (node_history h) root → (s : Settings) → s.policy.second ≡ true → (life : Life) (e : Event) (is : List Item) (run : IsRunIn h s (Lived life (Did e is)))
     → All (InTime h s run.before (Lived life (Did e is))) (replies_of is)
-acks_in_time h root W s second life e is run =
+replies_in_time h root W s second life e is run =
     let r : NodeHistory = acts_of (log_of (Lived life (Did e is))) in
     let is_in : IsBeginning (then_run run.before r) (node_history h s.me) = subst (IsBeginning (then_run run.before r)) (sym run.acts) (begins-run (then_run run.before r) run.after) in
     let before = begins_added (And (log_of life) (Begins e)) is in

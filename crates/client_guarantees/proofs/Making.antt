@@ -37,8 +37,7 @@ use Rattle.policy_model.specs.declared.events.Event.TheVariants.{Start, Tick, Fr
 use Rattle.policy_model.specs.declared.events.DropCause.{DropCause}
 use Rattle.policy_model.specs.Events.{StateMade, Item, Opens, Begins, Acts, ChangesMode, Drops, Sends, Replies, Notes}
 use Rattle.policy_model.specs.declared.events.Mode.TheVariants.{Candidate, Leader, Follower}
-use Rattle.policy_model.specs.Parts.{as_master}
-use Rattle.policy_model.specs.Views.{View}
+use Rattle.policy_model.specs.Views.{View, master_now}
 use Rattle.policy_model.specs.Moves.{moved, moved_all}
 use Rattle.policy_model.specs.Doing as doing
 use Rattle.policy_model.specs.NextState as next

@@ -5,6 +5,9 @@ use Rattle.std.proofs.lemmas.Bool.Decides.{nat_tests}
 use Rattle.voting_config.specs.Ids.{Id}
 use Rattle.cluster_state.specs.declared.state.StateId.{StateId}
 use Rattle.cluster_state.specs.declared.request.Request.{Request}
+use Rattle.cluster_state.specs.declared.state.ClusterValue.{ClusterValue}
+use Rattle.master_tasks.specs.declared.waiting.Waiting.{Waiting}
+use Rattle.master_tasks.specs.NextState.{next_value}
 use Rattle.world_model.specs.declared.acts.Act.{Act}
 use Rattle.world_model.specs.declared.acts.Act.TheVariants.{Bootstrap, StartJoin, TakeJoin, Value, Publish, Response, Commit, Open}
 use Rattle.world_model.specs.declared.acts.ActReply.{ActReply}
@@ -20,7 +23,7 @@ use Rattle.policy_model.specs.declared.settings.Settings.{Settings}
 use Rattle.policy_model.specs.declared.events.Event.{Event}
 use Rattle.policy_model.specs.Events.{Item, Log, NoItems, Opens, Begins, Acts, ChangesMode, Drops, Sends, Replies, Notes, And, added, acts_of}
 use Rattle.policy_model.specs.Entries.{Life, NotBegun, Opened, Lived, Did, Gone, Bad, NoMemory, Unread, log_of}
-use Rattle.policy_model.specs.LookBacks.{node_of}
+use Rattle.policy_model.specs.LookBacks.{node_of, master_of, tasks_of}
 use Rattle.policy_model.specs.Views.{View, view_of}
 use Rattle.policy_model.specs.Moves.{moved, is_own, view_of-And}
 use Rattle.policy_model.specs.Local.{IsAnswered, ByAct, ByQuiet, Ended, is_quiet}
@@ -28,8 +31,10 @@ use Rattle.policy_model.specs.Follows.{Follows, IsNext, IsStruck, is_struck, ite
 use Rattle.policy_model.proofs.Answering.{answered-next}
 use Rattle.policy_model.proofs.Standing.{own-quiet}
 use Rattle.policy_model.proofs.Locals.{struck_fault}
-use Rattle.client_guarantees.specs.Processed.{CameBy, CameIn, CameAt, last_id}
-use Rattle.client_guarantees.specs.InTime.{CameAfter, IsPublishedSince}
+use Rattle.client_guarantees.specs.Processed.{processed_into_next, CameBy, CameIn, CameAt, last_id}
+use Rattle.client_guarantees.specs.Lasting.{IsPartOf}
+use Rattle.client_guarantees.specs.InTime.{CameAfter, IsPublishedSince, HasPlace}
+use Rattle.client_guarantees.proofs.Folding.{IsAmong}
 use Rattle.client_guarantees.proofs.Telling.{Basis, Up}
 use Rattle.client_guarantees.proofs.Queued.{WasQueued}
 use Rattle.client_guarantees.proofs.Coming.{all_queued, event_fits}
@@ -130,8 +135,21 @@ pub record CameSince (life : Life) (conn : ℕ) (request : Request) : Type 0 whe
   pub came : CameAfter life conn request so_far
   pub begins : IsBeginning (acts_of (log_of so_far)) (acts_of (begun_of life))
 
+-- at such a moment of the life, when the node was so, it processed the request into this value
+pub record WasProcessed (s : Settings) (life : Life) (w : Waiting) (node : NodeState) (value : ClusterValue) : Type 0 where
+  pub moment : Log
+  pub part : IsPartOf moment (log_of life)
+  pub is_node : node_of moment ≡ node
+  pub is_value : next_value (master_of s moment) (tasks_of s moment) ≡ value
+  pub is_among : IsAmong (processed_into_next (master_of s moment) (tasks_of s moment)) w
+
+-- the state of this id was published after the request's line came, and the request has its place in it or below it
+pub record IsNew (h : History) (s : Settings) (g : NodeHistory) (life : Life) (w : Waiting) (id : StateId) : Type 0 where
+  pub since : IsPublishedSince h s g life w.conn w.request id
+  pub place : HasPlace h s g life w since.as_published.state
+
 abbrev pub basis : History → Settings → NodeHistory → Life → Basis
-basis h s g life = record { came = CameSince life; low = low_of life; anew = IsPublishedSince h s g life }
+basis h s g life = record { came = CameSince life; low = low_of life; processed = WasProcessed s life; anew = IsNew h s g life }
 
 pub came_in : (life : Life) (conn : ℕ) (request : Request) (so_far : Life) → CameAfter life conn request so_far → CameIn life conn request
 came_in NotBegun conn request so_far c = absurd c
@@ -144,7 +162,7 @@ came_in (Lived life NoMemory) conn request so_far c = came_in life conn request 
 came_in (Lived life (Unread n)) conn request so_far c = came_in life conn request so_far c
 
 -- in a life that goes on
-pub since_later : (h : History) (s : Settings) (g : NodeHistory) (life now : Life) (conn : ℕ) (request : Request) (id : StateId)
+since_later : (h : History) (s : Settings) (g : NodeHistory) (life now : Life) (conn : ℕ) (request : Request) (id : StateId)
     → ((so_far : Life) → CameAfter life conn request so_far → CameAfter now conn request so_far)
     → IsPublishedSince h s g life conn request id → IsPublishedSince h s g now conn request id
 since_later h s g life now conn request id f p = record {
@@ -155,6 +173,29 @@ since_later h s g life now conn request id f p = record {
   publisher = p.publisher;
   is_id = p.is_id;
   not_yet = p.not_yet;
+}
+
+-- what a life has as its parts a longer one has
+pub record GoesOn (life now : Life) : Type 0 where
+  pub came : (conn : ℕ) (request : Request) (so_far : Life) → CameAfter life conn request so_far → CameAfter now conn request so_far
+  pub parts : (m : Log) → IsPartOf m (log_of life) → IsPartOf m (log_of now)
+
+pub new_later : (h : History) (s : Settings) (g : NodeHistory) (life now : Life) (w : Waiting) (id : StateId) → GoesOn life now → IsNew h s g life w id → IsNew h s g now w id
+unfolding since_later
+new_later h s g life now w id k n = record {
+  since = since_later h s g life now w.conn w.request id (k.came w.conn w.request) n.since;
+  place = record {
+    id = n.place.id;
+    since = since_later h s g life now w.conn w.request n.place.id (k.came w.conn w.request) n.place.since;
+    into = record {
+      moment = n.place.into.moment;
+      part = k.parts n.place.into.moment n.place.into.part;
+      requests = n.place.into.requests;
+      made = n.place.into.made;
+      is_among = n.place.into.is_among;
+    };
+    descends = n.place.descends;
+  };
 }
 
 low-below : (s : Settings) (life : Life) → Follows s life → is_struck life ≡ false → Up (low_of life) (last_id (node_of (log_of life)))

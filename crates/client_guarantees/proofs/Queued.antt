@@ -2,7 +2,6 @@
 use Rattle.std.proofs.Common.{◌≡◌, ℕ, List, [], ◌∷◌, refl, sym, subst, ◌⊎◌, inl, inr}
 use Rattle.std.specs.List.{Contains, All}
 use Rattle.std.proofs.lemmas.List.Elements.{All-nil, All-cons, All-contains}
-use Rattle.cluster_state.specs.States.{id_of}
 use Rattle.cluster_state.specs.declared.request.Request.{Request}
 use Rattle.master_tasks.specs.declared.waiting.Waiting.{Waiting}
 use Rattle.master_tasks.specs.Queue.{arriving}
@@ -10,8 +9,8 @@ use Rattle.master_tasks.specs.Answering.{timed_out, committed_in, applied_in}
 use Rattle.policy_model.specs.declared.settings.Settings.{Settings}
 use Rattle.policy_model.specs.declared.events.Mode.TheVariants.{Candidate, Leader, Follower}
 use Rattle.policy_model.specs.Events.{Met, Heard, PeersAsked, ElectionOff, ElectionSet, RoundBegun, RoundAnswered, RoundEnded, Joined, FollowersChecked, FollowerAnswered, LeaderChecked, LeaderAnswered, Queued, ExclusionsTimedOut, CommitAcked, AppliedAnswered, StateMade, HandedOver, PeerLost, LeaderLost, Opens, Begins, Acts, ChangesMode, Drops, Sends, Replies, Notes, Log, NoItems, And}
-use Rattle.policy_model.specs.Parts.{as_master, published_id}
-use Rattle.policy_model.specs.LookBacks.{node_of, moment_of, tasks_of}
+use Rattle.policy_model.specs.Parts.{published_id}
+use Rattle.policy_model.specs.LookBacks.{node_of, moment_of, tasks_of, master_of}
 use Rattle.policy_model.proofs.Fits.{waiting-added}
 use Rattle.client_guarantees.specs.Processed.{processed_into_next, processed_of}
 use Rattle.client_guarantees.proofs.Folding.{Each, each-map, each-last, each-append, of-waiting, of-new}

@@ -198,8 +198,10 @@ module _ (h : History) (U : IsUnique h) (s : Settings) (P : Basis) where
       from (Some p) n =
           let m = i.made l (ap is_some n) in
           let d : IsDone h v.node = record { committed = c.committed; last = record { term = c.term; version = c.version (i.stands.leads.won l) }; settled = settled } in
+          let new = subst (λ (id : StateId). Each (λ w. w.processed ≡ true → IsNewFor s P id w) v.tasks.waiting) (λ i. record { term = sym d.last.term i; version = sym d.last.version i }) m.new in
           keeps-answers h s P v g _ (Notes AppliedAnswered ∷ []) (Holds h s P)
-          (λ q. true-applied_in h s P g m.done v.node.committed (id_of v.node.accepted) (accepted_done v g m d (reached_last P.low v (i.stands.leads.won l) d.last q)) (settled ∙ sym (ap (λ (x : ClusterState). x.config) d.committed.is_state)) v.tasks.waiting m.among)
+          (λ q. true-applied_in h s P g m.done v.node.committed v.node.accepted (accepted_done v g m d (reached_last P.low v (i.stands.leads.won l) d.last q)) (settled ∙ sym (ap (λ (x : ClusterState). x.config) d.committed.is_state)) d.committed
+          v.tasks.waiting (each-processed s P m.done (id_of v.node.accepted) v.tasks.waiting m.among new) i.came)
           (keeps-item h s P v g (Notes AppliedAnswered) [] (Holds h s P) refl (λ b. nothing _ g (holds-waiting h s P (place v g) _ (left_none _ _) (λ P e. each-left P _ _ e) i)))
 
   keeps-told_commit : (v : View) (g : List Waiting) (p : Id) (id : StateId) → Holds h s P (place v g) → Keeps h s P v g (publications.on_commit s v p id) (Holds h s P)

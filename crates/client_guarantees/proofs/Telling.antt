@@ -1,5 +1,5 @@
 -- What a rule's items tell and what they leave of a node and of the requests that it processed: how both are put together of the items' own.
-use Rattle.std.proofs.Common.{◌≡◌, ℕ, Bool, true, false, true≢false, List, [], ◌∷◌, ◌++◌, refl, sym, ◌∙◌, ap, subst}
+use Rattle.std.proofs.Common.{◌≡◌, ◌⊎◌, ℕ, Bool, true, false, true≢false, List, [], ◌∷◌, ◌++◌, refl, sym, ◌∙◌, ap, subst}
 use Rattle.std.specs.Prelude.{if◌then◌else◌}
 use Rattle.std.specs.List.{All}
 use Rattle.std.proofs.lemmas.List.{append_assoc, append-nil}
@@ -11,11 +11,12 @@ use Rattle.cluster_state.specs.declared.reply.Answer.TheVariants as answer
 use Rattle.cluster_state.specs.declared.reply.Reply.{Reply}
 use Rattle.cluster_state.specs.declared.reply.Reply.TheVariants as reply
 use Rattle.cluster_state.specs.declared.state.ClusterState.{ClusterState}
+use Rattle.cluster_state.specs.declared.state.ClusterValue.{ClusterValue}
 use Rattle.cluster_state.specs.declared.state.StateId.{StateId}
 use Rattle.cluster_state.specs.States.{id_of}
 use Rattle.master_tasks.specs.declared.waiting.Waiting.{Waiting}
 use Rattle.master_tasks.specs.declared.waiting.Outgoing.{Outgoing}
-use Rattle.master_tasks.specs.NextState.{is_write}
+use Rattle.master_tasks.specs.NextState.{next_value}
 use Rattle.world_model.specs.declared.acts.Act.{Act}
 use Rattle.world_model.specs.declared.acts.Act.TheVariants.{Value}
 use Rattle.world_model.specs.declared.acts.ActReply.{ActReply}
@@ -26,9 +27,9 @@ use Rattle.world_model.specs.Histories.{History}
 use Rattle.world_model.specs.Safety.{Published, IsCommitted, IsIdAtMost}
 use Rattle.policy_model.specs.declared.settings.Settings.{Settings}
 use Rattle.policy_model.specs.Events.{Met, Heard, PeersAsked, ElectionOff, ElectionSet, RoundBegun, RoundAnswered, RoundEnded, Joined, FollowersChecked, FollowerAnswered, LeaderChecked, LeaderAnswered, Queued, ExclusionsTimedOut, CommitAcked, AppliedAnswered, StateMade, HandedOver, PeerLost, LeaderLost, Item, Opens, Begins, Acts, ChangesMode, Drops, Sends, Replies, Notes}
-use Rattle.policy_model.specs.Parts.{as_master}
+use Rattle.policy_model.specs.Parts.{published_id}
 use Rattle.policy_model.specs.Entries.{replies_in, replies_of}
-use Rattle.policy_model.specs.Views.{View}
+use Rattle.policy_model.specs.Views.{View, master_now}
 use Rattle.policy_model.specs.Moves.{moved, moved_all}
 use Rattle.policy_model.specs.Doing as doing
 use Rattle.policy_model.proofs.Sweeps.{moved_all-append, replies-append}
@@ -36,7 +37,8 @@ use Rattle.client_guarantees.specs.Asked.{MeetsEach, HasNoVoterOf}
 use Rattle.client_guarantees.specs.Processed.{processed_into_next, last_id}
 use Rattle.client_guarantees.specs.Replies.{HasCommitted}
 use Rattle.client_guarantees.proofs.Steady.{Standing, standing, is_steady, IsSteady, Calm, Still, steady_stands, steady_silent}
-use Rattle.client_guarantees.proofs.Backing.{Backs}
+use Rattle.client_guarantees.proofs.Folding.{IsAmong}
+use Rattle.client_guarantees.proofs.Backing.{HasAcceptedLast, Backs}
 
 -- what the claims are about: how a node stands, and what it has processed
 pub record Place : Type 0 where
@@ -178,11 +180,13 @@ processed-steady s v g xs (Still i is e q) = processed-steady s (moved s v i) (p
 
 -- ---- what is told
 
--- which requests came, what the node had published last as the event began, and of which requests the state of an id was published after they came
+-- Which requests came, what the node had published last as the event began, which of them it processed into which value while it was so, and of
+-- which the state of an id was published after they came.
 pub record Basis : Type 1 where
   pub came : ℕ → Request → Type 0
   pub low : StateId
-  pub anew : ℕ → Request → StateId → Type 0
+  pub processed : Waiting → NodeState → ClusterValue → Type 0
+  pub anew : Waiting → StateId → Type 0
 
 -- one id is at most the other
 abbrev pub Up : StateId → StateId → Type 0
@@ -192,15 +196,28 @@ Up a b = IsIdAtMost a.term a.version b.term b.version
 abbrev pub HasReached : StateId → View → Type 0
 HasReached low v = Up low (last_id v.node)
 
--- in the second profile the state of this id was published after the request came, where that is a write
+-- in the second profile the state of this id was published after the request came
 abbrev pub IsNewFor : Settings → Basis → StateId → Waiting → Type 0
-IsNewFor s P id w = s.policy.second ≡ true → is_write w.request.ask ≡ true → P.anew w.conn w.request id
+IsNewFor s P id w = s.policy.second ≡ true → P.anew w id
 
--- an act that publishes a state does so after the requests came
-abbrev pub Renews : Basis → NodeState → Act → ActReply → Type 0
-Renews P node (Value version config value) reply =
-    is_taken reply ≡ true → (conn : ℕ) (request : Request) → P.came conn request → P.anew conn request (record { term = node.term; version = version })
-Renews P node act reply = Unit {0}
+-- the state of this id is so for the request, which is the one that the node has accepted, and is committed
+pub record WasNewFor (h : History) (P : Basis) (node : NodeState) (w : Waiting) : Type 0 where
+  pub new : P.anew w (published_id node)
+  pub last : HasAcceptedLast node
+  pub committed : HasCommitted h node.accepted
+
+-- an act that publishes a state does so after those requests came that were processed into its value, and those for which the last one was new
+abbrev pub Renews : History → Basis → NodeState → Act → ActReply → Type 0
+Renews h P node (Value version config value) reply =
+    is_taken reply ≡ true → (w : Waiting) → P.came w.conn w.request → P.processed w node value ⊎ WasNewFor h P node w
+    → P.anew w (record { term = node.term; version = version })
+Renews h P node act reply = Unit {0}
+
+-- the requests that are processed as a state is made
+abbrev pub Processes : Settings → Basis → View → Item → Type 0
+Processes s P v (Notes StateMade) =
+    (w : Waiting) → IsAmong (processed_into_next (master_now s v) v.tasks) w → P.processed w v.node (next_value (master_now s v) v.tasks)
+Processes s P v i = Unit {0}
 
 -- when a reply is true, by which requests came and which of them were processed
 pub record AckIsTrue (h : History) (s : Settings) (P : Basis) (processed : List Waiting) (conn number : ℕ) (id : StateId) : Type 0 where
@@ -219,16 +236,18 @@ pub record AckIsTrue (h : History) (s : Settings) (P : Basis) (processed : List 
   pub meets : MeetsEach as_published.state.value (request ∷ later)
   pub votes : HasNoVoterOf as_published.state.config request.request.ask
 
-pub record StateIsTrue (h : History) (P : Basis) (conn number : ℕ) (state : ClusterState) : Type 0 where
-  pub request : Request
-  pub has_number : request.id ≡ number
-  pub is_asked : request.ask ≡ ask.State
-  pub came : P.came conn request
+pub record StateIsTrue (h : History) (s : Settings) (P : Basis) (conn number : ℕ) (state : ClusterState) : Type 0 where
+  pub request : Waiting
+  pub has_conn : request.conn ≡ conn
+  pub has_number : request.request.id ≡ number
+  pub is_asked : request.request.ask ≡ ask.State
+  pub came : P.came request.conn request.request
+  pub is_new : IsNewFor s P (id_of state) request
   pub committed : HasCommitted h state
 
 abbrev pub AnswerIsTrue : History → Settings → Basis → List Waiting → ℕ → ℕ → Answer → Type 0
 AnswerIsTrue h s P processed conn number (answer.Acked id) = AckIsTrue h s P processed conn number id
-AnswerIsTrue h s P processed conn number (answer.State state) = StateIsTrue h P conn number state
+AnswerIsTrue h s P processed conn number (answer.State state) = StateIsTrue h s P conn number state
 AnswerIsTrue h s P processed conn number other = Unit {0}
 
 abbrev pub ReplyIsTrue : History → Settings → Basis → List Waiting → ℕ → Reply → Type 0
@@ -330,8 +349,9 @@ splits (x ∷ xs) ys (f ∷ fs) rest e = from (splits xs ys fs rest tail)
 module _ (h : History) (s : Settings) (P : Basis) where
   -- the history backs each act, what is published is published after who came, and who replies has published that much
   abbrev pub IsBacked : View → Item → Type 0
-  IsBacked v (Acts act (Answered reply)) = Backs h v.node act reply × Renews P v.node act reply
+  IsBacked v (Acts act (Answered reply)) = Backs h v.node act reply × Renews h P v.node act reply
   IsBacked v (Replies answer) = HasReached P.low v
+  IsBacked v (Notes note) = Processes s P v (Notes note)
   IsBacked v i = Unit {0}
 
   abbrev pub AreBacked : View → List Item → Type 0

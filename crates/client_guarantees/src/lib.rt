@@ -2,10 +2,10 @@
 #![tactic(auto)]
 
 ghost use Rattle.client_guarantees.specs.InTime.{
-  LawAcksFollowTime,
-  LawRestartedAcksFollowTime,
-  LawRestartedWritesArePublishedAfterTheyCame,
-  LawWritesArePublishedAfterTheyCame,
+  LawAnswersArePublishedAfterTheyCame,
+  LawAnswersFollowTime,
+  LawRestartedAnswersArePublishedAfterTheyCame,
+  LawRestartedAnswersFollowTime,
 };
 ghost use Rattle.client_guarantees.specs.Laws.{
   LawExcludedStayOut,
@@ -58,23 +58,24 @@ pub fn law_excluded_stay_out()
     ensures { LawExcludedStayOut }
 {}
 
-/// By the second profile a put, a remove or a clear is acknowledged with a state that was published after its line came,
-/// and so with none that any node had published by then.
-pub fn law_writes_are_published_after_they_came()
-    ensures { LawWritesArePublishedAfterTheyCame }
+/// By the second profile a request is acknowledged with a state that was published after its line came, and shown such a
+/// state, and so one that no node had published by then. An acknowledged request was processed into that state, or into
+/// one that was published since its line came and of which that one was made.
+pub fn law_answers_are_published_after_they_came()
+    ensures { LawAnswersArePublishedAfterTheyCame }
 {}
 
-/// So that state is above each one that was committed as the line came, and was made of it.
-pub fn law_acks_follow_time()
-    ensures { LawAcksFollowTime }
+/// So such a state is above each one that was committed as the line came, and was made of it.
+pub fn law_answers_follow_time()
+    ensures { LawAnswersFollowTime }
 {}
 
 /// So it is from the restart of one node on.
-pub fn law_restarted_writes_are_published_after_they_came()
-    ensures { LawRestartedWritesArePublishedAfterTheyCame }
+pub fn law_restarted_answers_are_published_after_they_came()
+    ensures { LawRestartedAnswersArePublishedAfterTheyCame }
 {}
 
 /// And that state is above each one that was committed since the restart as the line came.
-pub fn law_restarted_acks_follow_time()
-    ensures { LawRestartedAcksFollowTime }
+pub fn law_restarted_answers_follow_time()
+    ensures { LawRestartedAnswersFollowTime }
 {}
