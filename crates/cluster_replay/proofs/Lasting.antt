@@ -24,7 +24,7 @@ use Rattle.world_model.proofs.Moments.{Begins as IsBeginning, begins_trans}
 use Rattle.world_model.proofs.System.{origin}
 use Rattle.policy_model.specs.declared.settings.Settings.{Settings}
 use Rattle.policy_model.specs.declared.events.Event.{Event}
-use Rattle.policy_model.specs.Events.{Met, Heard, PeersAsked, ElectionOff, ElectionSet, RoundBegun, RoundAnswered, RoundEnded, Joined, FollowersChecked, FollowerAnswered, LeaderChecked, LeaderAnswered, Queued, ExclusionsTimedOut, CommitAcked, AppliedAnswered, StateMade, HandedOver, PeerLost, LeaderLost, Item, Opens, Begins, Acts, ChangesMode, Drops, Sends, Replies, Notes, Log, NoItems, And, added, acts_of}
+use Rattle.policy_model.specs.Events.{Met, Heard, PeersAsked, ElectionOff, ElectionSet, RoundBegun, RoundAnswered, RoundEnded, Joined, FollowersChecked, FollowerAnswered, LeaderChecked, LeaderAnswered, Queued, ExclusionsTimedOut, CommitAcked, AppliedAnswered, StateMade, HandedOver, PeerLost, LeaderLost, Item, Opens, Begins, Acts, ChangesMode, Drops, Sends, Replies, Notes, Log, And, added, acts_of}
 use Rattle.policy_model.specs.Entries.{Life, NotBegun, Opened, Lived, Did, Gone, Bad, NoMemory, Unread, log_of}
 use Rattle.policy_model.specs.Follows.{Follows, items_of}
 use Rattle.policy_model.specs.LookBacks.{node_of, tasks_of}
@@ -35,7 +35,7 @@ use Rattle.policy_model.proofs.Answering.{answered-next}
 use Rattle.policy_model.proofs.Standing.{own-answered}
 use Rattle.client_guarantees.specs.Lasting.{IsPartOf}
 use Rattle.client_guarantees.specs.Processed.{processed_into_next}
-use Rattle.client_guarantees.proofs.Lasting.{WasMade, legal_descends, settings_last, ack_lasts}
+use Rattle.client_guarantees.proofs.Lasting.{part-self, part-added, WasMade, legal_descends, settings_last, ack_lasts}
 use Rattle.client_guarantees.proofs.Making.{IsMadeOf, IsMadeItem, made_by, AreMade, made-next}
 use Rattle.client_guarantees.proofs.Running.{begins-run, node-within}
 use Rattle.world_model.specs.Restarts.{IsLegalFrom}
@@ -52,16 +52,6 @@ use Rattle.cluster_replay.specs.Laws.{IsWellFormed}
 use Rattle.cluster_replay.specs.Lasting.{IsSeenIn, HadSeen, HadSeenIn, LawClusterAcksLast, LawClusterSettingsLast, LawSystemSettingsLast, LawSystemAcksLast, LawRestartedSettingsLast, LawRestartedAcksLast}
 use Rattle.cluster_replay.proofs.Outside.{idle-outside}
 use Rattle.cluster_replay.proofs.Schedules.{cluster_replay_is_legal, lives_follow}
-
--- ---- moments of a log
-
-part-self : (l : Log) → IsPartOf l l
-part-self NoItems = refl
-part-self (And l i) = inl refl
-
-part-added : (m l : Log) (is : List Item) → IsPartOf m l → IsPartOf m (added l is)
-part-added m l [] p = p
-part-added m l (i ∷ is) p = part-added m (And l i) is (inr p)
 
 -- ---- where a value was made
 

@@ -13,7 +13,7 @@ use Rattle.policy_model.specs.Events.{Item, Log}
 use Rattle.policy_model.specs.Entries.{Life, Lived, Did, log_of}
 use Rattle.replay_node.specs.Clusters.{settings_of, replayed_history, replayed_life}
 use Rattle.client_guarantees.specs.Lasting.{IsPartOf, Lasts, AckLasts}
-use Rattle.client_guarantees.specs.InTime.{WritesAreInOrder}
+use Rattle.client_guarantees.specs.InTime.{AcksAreInOrder}
 use Rattle.system_laws.specs.Systems.{System, Nothing, Starts, Lives, Dies, Runs, run_of, history_of, IsSystem}
 use Rattle.system_laws.specs.RestartedSystems.{IsSystemFrom}
 use Rattle.cluster_replay.specs.Laws.{IsWellFormed}
@@ -42,12 +42,12 @@ LawClusterAcksLast =
     (schedule : Schedule) → IsWellFormed schedule
     → (s : Settings) (life : Life) → AckLasts (HadSeenIn schedule) (replayed_history schedule) s life
 
--- and acknowledged writes of the second profile are in order of time
-abbrev pub LawClusterWritesAreInOrder : Type 0
-LawClusterWritesAreInOrder =
+-- and acks of the second profile are in order of time
+abbrev pub LawClusterAcksAreInOrder : Type 0
+LawClusterAcksAreInOrder =
     (schedule : Schedule) → IsWellFormed schedule
     → (s : Settings) (before_run : NodeHistory) (life : Life)
-    → WritesAreInOrder (HadSeenIn schedule) (replayed_history schedule) s before_run life
+    → AcksAreInOrder (HadSeenIn schedule) (replayed_history schedule) s before_run life
 
 -- ---- systems
 
@@ -77,11 +77,11 @@ LawSystemSettingsLast =
 abbrev pub LawSystemAcksLast : Type 0
 LawSystemAcksLast = (initial : List Id) (h : System) → IsSystem initial h → (s : Settings) (life : Life) → AckLasts (HadSeen h) (history_of h) s life
 
--- and acknowledged writes of the second profile are in order of time
-abbrev pub LawSystemWritesAreInOrder : Type 0
-LawSystemWritesAreInOrder =
+-- and acks of the second profile are in order of time
+abbrev pub LawSystemAcksAreInOrder : Type 0
+LawSystemAcksAreInOrder =
     (initial : List Id) (h : System) → IsSystem initial h
-    → (s : Settings) (before_run : NodeHistory) (life : Life) → WritesAreInOrder (HadSeen h) (history_of h) s before_run life
+    → (s : Settings) (before_run : NodeHistory) (life : Life) → AcksAreInOrder (HadSeen h) (history_of h) s before_run life
 
 -- ---- from the restart of one node on, of what is committed and acked since
 
@@ -96,7 +96,7 @@ LawRestartedAcksLast =
     (first : Id) (kept : Kept) (h : System) → IsAlone first kept → IsSystemFrom first kept h
     → (s : Settings) (life : Life) → AckLasts (HadSeen h) (history_of h) s life
 
-abbrev pub LawRestartedWritesAreInOrder : Type 0
-LawRestartedWritesAreInOrder =
+abbrev pub LawRestartedAcksAreInOrder : Type 0
+LawRestartedAcksAreInOrder =
     (first : Id) (kept : Kept) (h : System) → IsAlone first kept → IsSystemFrom first kept h
-    → (s : Settings) (before_run : NodeHistory) (life : Life) → WritesAreInOrder (HadSeen h) (history_of h) s before_run life
+    → (s : Settings) (before_run : NodeHistory) (life : Life) → AcksAreInOrder (HadSeen h) (history_of h) s before_run life

@@ -4,13 +4,13 @@ ghost use Rattle.cluster_replay.specs.Laws.{LawClusterRepliesAreTrue, LawCluster
 ghost use Rattle.cluster_replay.specs.Lasting.{
   LawClusterAcksLast,
   LawClusterSettingsLast,
-  LawClusterWritesAreInOrder,
+  LawClusterAcksAreInOrder,
   LawRestartedAcksLast,
   LawRestartedSettingsLast,
-  LawRestartedWritesAreInOrder,
+  LawRestartedAcksAreInOrder,
   LawSystemAcksLast,
   LawSystemSettingsLast,
-  LawSystemWritesAreInOrder,
+  LawSystemAcksAreInOrder,
 };
 ghost use Rattle.cluster_replay.specs.SystemReplies.{
   LawKilledRepliesAreTrue,
@@ -65,11 +65,11 @@ pub fn law_cluster_acks_last()
     ensures { LawClusterAcksLast }
 {}
 
-/// By the second profile acknowledged writes are in order of time: of two acks, by whichever nodes, where the line of the
-/// second's write came when the first had been sent, the second's state was made of the first's, and what the write says
-/// is there from then on, until a later request changes it.
-pub fn law_cluster_writes_are_in_order()
-    ensures { LawClusterWritesAreInOrder }
+/// By the second profile acks are in order of time: the acked state is above each one that was committed as the line
+/// came, and was made of it; so it is above each one that had been acked or shown by then, by whichever node. And what a
+/// put or a remove says is there from then on, until a later request changes it.
+pub fn law_cluster_acks_are_in_order()
+    ensures { LawClusterAcksAreInOrder }
 {}
 
 /// The same of a system of nodes, each of whose runs follows the policy.
@@ -82,9 +82,9 @@ pub fn law_system_acks_last()
     ensures { LawSystemAcksLast }
 {}
 
-/// And of the order of its acknowledged writes.
-pub fn law_system_writes_are_in_order()
-    ensures { LawSystemWritesAreInOrder }
+/// And of the order of its acks.
+pub fn law_system_acks_are_in_order()
+    ensures { LawSystemAcksAreInOrder }
 {}
 
 /// Each reply of each run of each node is true too in a system that one node begins alone, restarted from what it kept, as
@@ -108,7 +108,7 @@ pub fn law_restarted_acks_last()
     ensures { LawRestartedAcksLast }
 {}
 
-/// And of the order of its acknowledged writes.
-pub fn law_restarted_writes_are_in_order()
-    ensures { LawRestartedWritesAreInOrder }
+/// And of the order of its acks.
+pub fn law_restarted_acks_are_in_order()
+    ensures { LawRestartedAcksAreInOrder }
 {}

@@ -11,8 +11,8 @@ fn the_laws_can_be_called() {
     law_next_meets_each();
     law_last_setting_stands();
     law_excluded_stay_out();
-    law_writes_are_published_after_they_came();
-    law_acks_follow_time();
-    law_restarted_writes_are_published_after_they_came();
-    law_restarted_acks_follow_time();
+    law_answers_are_published_after_they_came();
+    law_answers_follow_time();
+    law_restarted_answers_are_published_after_they_came();
+    law_restarted_answers_follow_time();
 }

@@ -10,9 +10,9 @@ fn the_laws_can_be_called() {
     law_system_replies_are_true();
     law_cluster_settings_last();
     law_cluster_acks_last();
-    law_cluster_writes_are_in_order();
-    law_system_writes_are_in_order();
-    law_restarted_writes_are_in_order();
+    law_cluster_acks_are_in_order();
+    law_system_acks_are_in_order();
+    law_restarted_acks_are_in_order();
     law_system_settings_last();
     law_system_acks_last();
     law_restarted_system_replies_are_true();
