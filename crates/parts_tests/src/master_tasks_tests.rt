@@ -6,13 +6,19 @@ use cluster_state::{
 };
 use master_tasks::*;
 use std::alloc::{AllocError, Global};
+use std::process::Abort;
 use std::test::*;
 use voting_config::{IdList, NodeSet, VotingConfig};
 
-// The first profile, whose configurations may shrink.
+// The two profiles, whose configurations may shrink.
 const FIRST: Policy = Policy {
     shrink: true,
     second: false,
+};
+
+const SECOND: Policy = Policy {
+    shrink: true,
+    second: true,
 };
 
 // What a client wishes, as it stands in a table.
@@ -30,9 +36,9 @@ enum Wish {
 enum Occasion {
     // The node is the leader of this term no more.
     Failed(u64),
-    // State 1/2 is committed.
+    // State 1/1 is committed.
     Committed,
-    // State 1/2, which commits these voters, is applied.
+    // State 1/1, which commits these voters, is applied.
     Applied(&'static str),
     // It is this late, and a, b and c are the voters.
     Late(u64),
@@ -171,13 +177,14 @@ fn write_state(
 // What comes of the tasks of leader a, of whom a, b, c and d are voters.
 fn next(
     alloc: Global,
+    policy: Policy,
     tasks: &mut MasterTasks,
     term: u64,
     accepted: &SharedState,
 ) -> Result<Vec<u8>, AllocError> {
     let committed = VotingConfig::of_list(&accepted.config);
     let votes = votes("a,b,c,d");
-    let next = tasks.next_state(id("a"), term, accepted, &committed, &votes, FIRST)?;
+    let next = tasks.next_state(id("a"), term, accepted, &committed, &votes, policy)?;
     written(alloc, &next)
 }
 
@@ -194,13 +201,14 @@ fn take_all(alloc: Global, tasks: &mut MasterTasks, wishes: &[Wish]) -> Result<(
 // What comes of requests, of ids from 1 on.
 fn came(
     alloc: Global,
+    policy: Policy,
     term: u64,
     accepted: &SharedState,
     wishes: &[Wish],
 ) -> Result<Vec<u8>, Fail> {
     let mut tasks = MasterTasks::new(alloc);
     take_all(alloc, &mut tasks, wishes)?;
-    Ok(next(alloc, &mut tasks, term, accepted)?)
+    Ok(next(alloc, policy, &mut tasks, term, accepted)?)
 }
 
 // As many requests as may wait, each of id 7 and come at moment 5.
@@ -264,12 +272,13 @@ fn a_65th_request_is_refused(rt: HostRuntime) -> Result<(), Fail> {
 // Whether this comes of requests at the leader of the term.
 fn comes_of(
     alloc: Global,
+    policy: Policy,
     term: u64,
     accepted: &SharedState,
     wishes: &[Wish],
     want: &str,
 ) -> Result<bool, Fail> {
-    let text = came(alloc, term, accepted, wishes)?;
+    let text = came(alloc, policy, term, accepted, wishes)?;
     Ok(text.as_slice() == want.as_bytes())
 }
 
@@ -296,10 +305,10 @@ type Outcome = (
     &'static str,
 );
 
-fn comes(alloc: Global, row: &Outcome) -> Result<bool, Fail> {
+fn comes(alloc: Global, policy: Policy, row: &Outcome) -> Result<bool, Fail> {
     let (term, (voters, exclusions), wishes, want) = *row;
     let accepted = accepted(alloc, voters, exclusions)?;
-    comes_of(alloc, term, &accepted, wishes, want)
+    comes_of(alloc, policy, term, &accepted, wishes, want)
 }
 
 const OUTCOMES: &[Outcome] = &[
@@ -384,12 +393,79 @@ const OUTCOMES: &[Outcome] = &[
     ),
 ];
 
-#[test]
-fn requests_make_this_state_or_get_this_answer(rt: HostRuntime) -> Result<(), Fail> {
-    for (at, row) in OUTCOMES.iter().enumerate() {
-        assert!(rt; comes(rt.alloc(), row)?, "row {at}");
+// The same by the second profile: each request that is not refused makes a state, and the first state of a term keeps the voters.
+const OUTCOMES_BY_THE_SECOND: &[Outcome] = &[
+    (
+        1,
+        ("a,b,c", "_"),
+        &[Wish::State],
+        r#"abc {"exclusions":[],"master":"a","members":["a","b","c"],"settings":{"v":"x"}}"#,
+    ),
+    (
+        1,
+        ("a,b,c", "_"),
+        &[Wish::Put("w", "1"), Wish::State],
+        r#"abc {"exclusions":[],"master":"a","members":["a","b","c"],"settings":{"v":"x","w":"1"}}"#,
+    ),
+    (
+        1,
+        ("a,b,c", "_"),
+        &[Wish::Put("v", "x")],
+        r#"abc {"exclusions":[],"master":"a","members":["a","b","c"],"settings":{"v":"x"}}"#,
+    ),
+    (
+        1,
+        ("a,b,c", "_"),
+        &[Wish::Remove("w")],
+        r#"abc {"exclusions":[],"master":"a","members":["a","b","c"],"settings":{"v":"x"}}"#,
+    ),
+    (
+        1,
+        ("a", "c"),
+        &[Wish::Exclude("c")],
+        r#"a {"exclusions":["c"],"master":"a","members":["a","b","c"],"settings":{"v":"x"}}"#,
+    ),
+    (
+        1,
+        ("a,b,c", "d,e,f,g,h,i,j,k,l,m"),
+        &[Wish::Exclude("c")],
+        r#"same {"id":1,"too_many_exclusions":11}"#,
+    ),
+    (
+        1,
+        ("a", "c"),
+        &[Wish::Clear { wait: true }],
+        r#"same {"id":1,"still_member":"c"}"#,
+    ),
+    (
+        1,
+        ("a,b", "_"),
+        &[],
+        r#"abc {"exclusions":[],"master":"a","members":["a","b","c"],"settings":{"v":"x"}}"#,
+    ),
+    (
+        2,
+        ("a,b", "_"),
+        &[],
+        r#"ab {"exclusions":[],"master":"a","members":["a","b","c"],"settings":{"v":"x"}}"#,
+    ),
+];
+
+fn all_come(rt: &impl Abort, alloc: Global, policy: Policy, rows: &[Outcome]) -> Result<(), Fail> {
+    for (at, row) in rows.iter().enumerate() {
+        assert!(rt; comes(alloc, policy, row)?, "row {at}");
     }
     Ok(())
+}
+
+#[test]
+fn requests_make_this_state_or_get_this_answer(rt: HostRuntime) -> Result<(), Fail> {
+    all_come(&rt, rt.alloc(), FIRST, OUTCOMES)
+}
+
+#[test]
+fn each_request_that_is_not_refused_makes_a_state(rt: HostRuntime) -> Result<(), Fail> {
+    all_come(&rt, rt.alloc(), SECOND, OUTCOMES_BY_THE_SECOND)
 }
 
 // What comes of one request, first and later.
@@ -405,7 +481,7 @@ fn one_request(alloc: Global) -> Result<MasterTasks, Fail> {
 }
 
 fn comes_next(alloc: Global, tasks: &mut MasterTasks, accepted: &SharedState, want: &str) -> bool {
-    match next(alloc, tasks, 1, accepted) {
+    match next(alloc, FIRST, tasks, 1, accepted) {
         Ok(text) => text.as_slice() == want.as_bytes(),
         Err(_) => false,
     }
@@ -445,7 +521,10 @@ fn full_of_settings(alloc: Global) -> Result<SharedState, AllocError> {
 fn a_4097th_setting_is_refused(rt: HostRuntime) -> Result<(), Fail> {
     let accepted = full_of_settings(rt.alloc())?;
     for (wishes, want) in FULL {
-        assert!(rt; comes_of(rt.alloc(), 1, &accepted, wishes, want)?, "{want}");
+        assert!(rt;
+            comes_of(rt.alloc(), FIRST, 1, &accepted, wishes, want)?,
+            "{want}"
+        );
     }
     Ok(())
 }
@@ -573,43 +652,55 @@ fn a_65th_member_is_left_out(rt: HostRuntime) {
     assert!(rt; is_made(rt.alloc(), "c", ONE_TOO_MANY));
 }
 
-fn process(alloc: Global, tasks: &mut MasterTasks) -> Result<(), AllocError> {
-    let accepted = accepted(alloc, "a,b,c", "_")?;
-    let _ = next(alloc, tasks, 1, &accepted)?;
-    Ok(())
-}
-
-// Three requests, of which the first two are processed.
-fn three(alloc: Global) -> Result<MasterTasks, Fail> {
+// Four requests, of which the first three are processed beside the accepted state.
+fn four(alloc: Global, accepted: &SharedState) -> Result<MasterTasks, Fail> {
     let mut tasks = MasterTasks::new(alloc);
     take_all(
         alloc,
         &mut tasks,
-        &[Wish::Put("w", "1"), Wish::Exclude("b")],
+        &[Wish::Put("w", "1"), Wish::Exclude("b"), Wish::State],
     )?;
-    process(alloc, &mut tasks)?;
-    take(alloc, &mut tasks, 1, 3, Wish::Exclude("x"))?;
+    let _ = next(alloc, SECOND, &mut tasks, 1, accepted)?;
+    take(alloc, &mut tasks, 1, 4, Wish::Exclude("x"))?;
     Ok(tasks)
 }
 
-// State 1/2.
-const SECOND: StateId = StateId {
-    term: 1,
-    version: 2,
-};
+// A leader takes the commit of the accepted state. Without room for all replies none is sent.
+fn apply(
+    tasks: &mut MasterTasks,
+    voters: &str,
+    accepted: &SharedState,
+    out: &mut Replies,
+) -> Result<(), AllocError> {
+    let Applied {
+        tasks: left,
+        replies,
+    } = tasks.once_applied(&config(voters), accepted)?;
+    if replies.as_slice().len() <= out.room() {
+        out.append(replies);
+    }
+    *tasks = left;
+    Ok(())
+}
 
 // Answers on an occasion, behind the replies that are there. Without room for all it does nothing: the contracts ask
 // for room.
-fn reply_on(tasks: &mut MasterTasks, occasion: Occasion, out: &mut Replies) {
+fn reply_on(
+    tasks: &mut MasterTasks,
+    occasion: Occasion,
+    accepted: &SharedState,
+    out: &mut Replies,
+) -> Result<(), AllocError> {
     if tasks.open_count() > out.room() {
-        return;
+        return Ok(());
     }
     match occasion {
         Occasion::Failed(term) => tasks.fail_all(term, out),
-        Occasion::Committed => tasks.ack_committed(SECOND, out),
-        Occasion::Applied(voters) => tasks.answer_applied(&config(voters), SECOND, out),
+        Occasion::Committed => tasks.ack_committed(accepted.id(), out),
+        Occasion::Applied(voters) => return apply(tasks, voters, accepted, out),
         Occasion::Late(now) => tasks.time_out_exclusions(&config("a,b,c"), now, out),
     }
+    Ok(())
 }
 
 // Room for twelve replies, one of which is there already: others must leave it there and come behind it.
@@ -647,15 +738,16 @@ fn is_behind_earlier(text: &[u8], want: &str) -> bool {
     }
 }
 
-// Occasions one after the other, how many of three requests wait on then, and the replies to the others.
+// Occasions one after the other, how many of four requests wait on then, and the replies to the others.
 type Answers = (&'static [Occasion], usize, &'static str);
 
-// How many of the three requests wait on after these occasions, and the replies to the others.
+// How many of the four requests wait on after these occasions, and the replies to the others.
 fn replied(alloc: Global, occasions: &[Occasion]) -> Result<(usize, Vec<u8>), Fail> {
-    let mut tasks = three(alloc)?;
+    let accepted = accepted(alloc, "a,b,c", "_")?;
+    let mut tasks = four(alloc, &accepted)?;
     let mut out = begun(alloc)?;
     for occasion in occasions {
-        reply_on(&mut tasks, *occasion, &mut out);
+        reply_on(&mut tasks, *occasion, &accepted, &mut out)?;
     }
     Ok((tasks.open_count(), appended(alloc, out)?))
 }
@@ -670,31 +762,30 @@ const ANSWERED: &[Answers] = &[
     (
         &[Occasion::Failed(4)],
         0,
-        r#" {"failed_to_commit":4,"id":1} {"failed_to_commit":4,"id":2} {"failed_to_commit":4,"id":3}"#,
+        r#" {"failed_to_commit":4,"id":1} {"failed_to_commit":4,"id":2} {"failed_to_commit":4,"id":3} {"failed_to_commit":4,"id":4}"#,
     ),
     (
-        &[
-            Occasion::Committed,
-            Occasion::Applied("a,b,c"),
-            Occasion::Late(29_999),
-        ],
+        &[Occasion::Committed, Occasion::Late(29_999)],
+        3,
+        r#" {"acked":{"term":1,"version":1},"id":1}"#,
+    ),
+    (
+        &[Occasion::Committed, Occasion::Applied("a,b,c")],
         2,
-        r#" {"acked":{"term":1,"version":2},"id":1}"#,
+        r#" {"acked":{"term":1,"version":1},"id":1} {"id":3,"state":{"committed":["a","b","c"],"config":["a","b","c"],"parent":{"term":0,"version":0},"term":1,"value":{"exclusions":[],"master":"a","members":["a","b","c"],"settings":{"v":"x"}},"version":1}}"#,
     ),
     (
         &[
             Occasion::Committed,
-            Occasion::Applied("a,b,c"),
-            Occasion::Late(29_999),
             Occasion::Applied("a,c"),
             Occasion::Late(30_001),
         ],
         0,
-        r#" {"acked":{"term":1,"version":2},"id":1} {"acked":{"term":1,"version":2},"id":2} {"exclusion_timeout":[],"id":3}"#,
+        r#" {"acked":{"term":1,"version":1},"id":1} {"acked":{"term":1,"version":1},"id":2} {"id":3,"state":{"committed":["a","b","c"],"config":["a","b","c"],"parent":{"term":0,"version":0},"term":1,"value":{"exclusions":[],"master":"a","members":["a","b","c"],"settings":{"v":"x"}},"version":1}} {"exclusion_timeout":[],"id":4}"#,
     ),
     (
         &[Occasion::Late(30_000)],
-        2,
+        3,
         r#" {"exclusion_timeout":["b"],"id":2}"#,
     ),
 ];
