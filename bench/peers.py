@@ -25,7 +25,7 @@ TICKS = os.sysconf('SC_CLK_TCK')
 
 
 class Zen:
-    """Three nodes of `zen`, and how they are asked for a put."""
+    """Three nodes of `zen`, and how they are asked for a put, or to be shown the state."""
 
     name, loads = 'zen', ((1, 1), (8, 8))
 
@@ -37,13 +37,17 @@ class Zen:
     def put(self, number, key, value):
         return b'{"id":%d,"put":{"key":"%s","value":"%s"}}\n' % (number, key, value)
 
+    def read(self, number, key, value):
+        """A request for the whole state, whatever the key."""
+        return b'{"id":%d,"state":{}}\n' % number
+
     def take_reply(self, got):
-        """Takes the first reply of what came. Gives whether it tells of a put that is done, or None where it is not whole."""
+        """Takes the first reply of what came. Gives whether it tells of something done, or None where it is not whole."""
         line, feed, rest = got.partition(b'\n')
         if not feed:
             return None
         got[:] = rest
-        return b'acked' in line
+        return b'"acked":' in line or b'"state":' in line
 
     def leader(self, names):
         """The first of these that acknowledges a put."""
@@ -67,7 +71,7 @@ class Zen:
 
 
 class Etcd:
-    """Three members of etcd, and how they are asked for a put: by its gateway, HTTP and JSON."""
+    """Three members of etcd, and how they are asked for a put, or to be shown a key: by its gateway, HTTP and JSON."""
 
     # A connection has one request unanswered.
     name, loads = 'etcd', ((1, 1), (63, 1))
@@ -83,9 +87,16 @@ class Etcd:
              '--listen-peer-urls', url(name + '-peer'), '--initial-advertise-peer-urls', url(name + '-peer'), '--initial-cluster', cluster,
              '--initial-cluster-state', 'new', '--log-level', 'error'], stdout=subprocess.DEVNULL, stderr=subprocess.DEVNULL) for name in NAMES}
 
+    def request(self, what, value):
+        body = json.dumps(value).encode()
+        return b'POST /v3/kv/%s HTTP/1.1\r\nHost: x\r\nContent-Type: application/json\r\nContent-Length: %d\r\n\r\n%s' % (what, len(body), body)
+
     def put(self, number, key, value):
-        body = json.dumps({'key': base64.b64encode(key).decode(), 'value': base64.b64encode(value).decode()}).encode()
-        return b'POST /v3/kv/put HTTP/1.1\r\nHost: x\r\nContent-Type: application/json\r\nContent-Length: %d\r\n\r\n%s' % (len(body), body)
+        return self.request(b'put', {'key': base64.b64encode(key).decode(), 'value': base64.b64encode(value).decode()})
+
+    def read(self, number, key, value):
+        """A request for a key alone: linearizable, as nothing else is said."""
+        return self.request(b'range', {'key': base64.b64encode(key).decode()})
 
     def take_reply(self, got):
         head, blank, rest = got.partition(b'\r\n\r\n')
@@ -127,29 +138,29 @@ class Etcd:
 class Asker:
     """A connection of the load: what it sent, when, and what came."""
 
-    def __init__(self, kind, port, number):
-        self.kind, self.number, self.count = kind, number, 0
+    def __init__(self, request, take_reply, port, number):
+        self.request, self.take_reply, self.number, self.count = request, take_reply, number, 0
         self.socket = socket.create_connection((running.HOST, port), timeout=30)
         self.socket.setsockopt(socket.IPPROTO_TCP, socket.TCP_NODELAY, 1)
         self.begun, self.got = collections.deque(), bytearray()
 
     def fill(self, flight):
-        """Asks for puts until so many are unanswered."""
+        """Asks until so many requests are unanswered."""
         more = []
         while len(self.begun) < flight:
-            more.append(self.kind.put(self.count, b'k%d-%d' % (self.number, self.count % 8), b'v%d' % self.count))
+            more.append(self.request(self.count, b'k%d-%d' % (self.number, self.count % 8), b'v%d' % self.count))
             self.begun.append(time.perf_counter())
             self.count += 1
         self.socket.sendall(b''.join(more))
 
     def take(self):
-        """Takes what came. Gives the seconds of each put that is done, and how many were refused."""
+        """Takes what came. Gives the seconds of each request that is done, and how many were refused."""
         more = self.socket.recv(65536)
         if not more:
             raise running.Broken('a connection of the load has ended')
         self.got += more
         times, refused = [], 0
-        while (done := self.kind.take_reply(self.got)) is not None:
+        while (done := self.take_reply(self.got)) is not None:
             seconds = time.perf_counter() - self.begun.popleft()
             if done:
                 times.append(seconds)
@@ -158,9 +169,9 @@ class Asker:
         return times, refused
 
 
-def load(kind, port, connections, flight, seconds):
-    """Has settings put over so many connections, so many unanswered on each. Gives the seconds of each put, sorted, and of all."""
-    askers = [Asker(kind, port, number) for number in range(connections)]
+def load(kind, request, port, connections, flight, seconds):
+    """Asks over so many connections, with so many requests unanswered on each. Gives the seconds of each, sorted, and of all."""
+    askers = [Asker(request, kind.take_reply, port, number) for number in range(connections)]
     times, refused, start = [], 0, time.perf_counter()
     with selectors.DefaultSelector() as waiting:
         for asker in askers:
@@ -177,7 +188,7 @@ def load(kind, port, connections, flight, seconds):
     for asker in askers:
         asker.socket.close()
     if refused:
-        raise running.Broken('%s refuses %d puts' % (kind.name, refused))
+        raise running.Broken('%s refuses %d requests' % (kind.name, refused))
     return sorted(times), elapsed
 
 
@@ -203,9 +214,10 @@ def measure(kind, seconds):
     # All three are members by then.
     time.sleep(2)
     figures = {}
-    for what, (connections, flight) in zip(('one', 'many'), kind.loads):
+    one, many = kind.loads
+    for what, request, (connections, flight) in zip(LOADS, (kind.put, kind.put, kind.read, kind.read), (one, many, one, many)):
         before = processor(kind.processes[leader])
-        times, elapsed = load(kind, kind.ports[leader], connections, flight, seconds)
+        times, elapsed = load(kind, request, kind.ports[leader], connections, flight, seconds)
         user, system = (now - was for now, was in zip(processor(kind.processes[leader]), before))
         figures.update({what + ' rate': len(times) / elapsed, what + ' p50': 1e6 * times[len(times) // 2], what + ' p99': 1e6 * times[len(times) * 99 // 100],
                         what + ' user': 1e6 * user / len(times), what + ' system': 1e6 * system / len(times)})
@@ -222,13 +234,27 @@ def measure(kind, seconds):
     return figures
 
 
-ROWS = (
-    ('one put at a time, acknowledged a second', 'one rate', '%.0f'), ('    50th percentile, us', 'one p50', '%.0f'), ('    99th percentile, us', 'one p99', '%.0f'),
-    ('64 unanswered (63 for etcd), acknowledged a second', 'many rate', '%.0f'), ('    50th percentile, us', 'many p50', '%.0f'),
-    ('    99th percentile, us', 'many p99', '%.0f'), ("    the leader's own processor time for each, us", 'many user', '%.1f'),
-    ("    the system's for it, us", 'many system', '%.1f'), ('memory of the three, MB', 'memory', '%.0f'), ('the three idle, % of a processor', 'idle', '%.2f'),
+LOADS = {
+    'one put': 'one put at a time, acknowledged a second', 'puts': '64 puts unanswered (63 for etcd), acknowledged a second',
+    'one read': 'one read at a time, answered a second', 'reads': '64 reads unanswered (63 for etcd), answered a second',
+}
+OF_LOAD = (
+    ('50th percentile, us', 'p50', '%.0f'), ('99th percentile, us', 'p99', '%.0f'), ("the leader's own processor time for each, us", 'user', '%.1f'),
+    ("the system's for it, us", 'system', '%.1f'),
+)
+OF_ALL = (
+    ('memory of the three, MB', 'memory', '%.0f'), ('the three idle, % of a processor', 'idle', '%.2f'),
     ('disk of one after all that, KB', 'disk', '%.0f'), ('seconds without an answer after SIGKILL of the leader', 'gap', '%.1f'),
 )
+
+
+def rows():
+    """What is printed: the words of each row, its figure and how that is written."""
+    for load_of, title in LOADS.items():
+        yield title, load_of + ' rate', '%.0f'
+        for what, key, form in OF_LOAD:
+            yield what, '%s %s' % (load_of, key), form
+    yield from OF_ALL
 
 
 def main(words):
@@ -251,11 +277,11 @@ def main(words):
         shutil.rmtree(top, ignore_errors=True)
     print('| | %s |' % ' | '.join(name for name, _ in columns + ([('zen / etcd', None)] if etcd else [])))
     print('|---|' + '--:|' * (len(columns) + bool(etcd)))
-    for what, key, form in ROWS:
+    for what, key, form in rows():
         cells = [form % figures[key] for _, figures in columns]
         if etcd:
             cells.append('%.2f' % (columns[0][1][key] / columns[1][1][key]) if columns[1][1][key] else '')
-        print('| %s | %s |' % (what.strip(), ' | '.join(cells)))
+        print('| %s | %s |' % (what, ' | '.join(cells)))
 
 
 if __name__ == '__main__':
