@@ -8,7 +8,8 @@ use Rattle.master_tasks.specs.Queue.{Tasks, to_be_added, offered, arriving}
 use Rattle.master_tasks.specs.NextState.{leader_of}
 use Rattle.policy_model.specs.declared.settings.Settings.{Settings}
 use Rattle.policy_model.specs.Events.{Item, Notes, Joined, Queued}
-use Rattle.policy_model.specs.Views.{View}
+use Rattle.policy_model.specs.Parts.{policy_at}
+use Rattle.policy_model.specs.Views.{View, master_now}
 use Rattle.policy_model.specs.Moves.{moved_all}
 use Rattle.policy_model.specs.Doing.{is_leader, may_win}
 use Rattle.policy_model.specs.NextState.{goes_on, leads_on, hands_over, is_in_flight}
@@ -24,16 +25,16 @@ use Rattle.coordinator.proofs.Quiet.{makes_nothing, makes_note}
 use Rattle.coordinator.proofs.Foreseen.{has_planned}
 
 pub planned_member : (s : Settings) (v : View) (p : Id) (plan : Option Plan) (copy tasks : Tasks) → copy ≡ v.tasks → tasks ≡ to_be_added copy p
-    → HasPlan (leader_of s.me v.node.term v.node.accepted v.node.committed v.node.join_votes s.policy) tasks plan → IsPlanned s (moved_all s v (Notes (Joined (p ∷ [])) ∷ [])) plan
+    → HasPlan (master_now s v) tasks plan → IsPlanned s (moved_all s v (Notes (Joined (p ∷ [])) ∷ [])) plan
 planned_member s v p plan copy tasks copy_is tasks_is has =
-    has_planned s (moved_all s v (Notes (Joined (p ∷ [])) ∷ [])) (leader_of s.me v.node.term v.node.accepted v.node.committed v.node.join_votes s.policy) tasks plan has refl
+    has_planned s (moved_all s v (Notes (Joined (p ∷ [])) ∷ [])) (master_now s v) tasks plan has refl
     (tasks_is ∙ ap (λ (t : Tasks). to_be_added t p) copy_is)
 
-pub same_plan : (s : Settings) (v : View) (plan : Option Plan) (term : ℕ) (votes : List Id) (tasks : Tasks) → term ≡ v.node.term → votes ≡ v.node.join_votes
-    → HasPlan (leader_of s.me term v.node.accepted v.node.committed votes s.policy) tasks plan → HasPlan (leader_of s.me v.node.term v.node.accepted v.node.committed v.node.join_votes s.policy) tasks plan
-same_plan s v plan term votes tasks term_is votes_is has =
-    subst (λ (x : ℕ). HasPlan (leader_of s.me x v.node.accepted v.node.committed v.node.join_votes s.policy) tasks plan) term_is
-    (subst (λ (x : List Id). HasPlan (leader_of s.me term v.node.accepted v.node.committed x s.policy) tasks plan) votes_is has)
+pub same_plan : (s : Settings) (v : View) (plan : Option Plan) (committed : List Id) (term : ℕ) (votes : List Id) (tasks : Tasks) → term ≡ v.node.term → votes ≡ v.node.join_votes
+    → HasPlan (leader_of s.me term v.node.accepted committed votes (policy_at s v.led_from v.moment)) tasks plan → HasPlan (leader_of s.me v.node.term v.node.accepted committed v.node.join_votes (policy_at s v.led_from v.moment)) tasks plan
+same_plan s v plan committed term votes tasks term_is votes_is has =
+    subst (λ (x : ℕ). HasPlan (leader_of s.me x v.node.accepted committed v.node.join_votes (policy_at s v.led_from v.moment)) tasks plan) term_is
+    (subst (λ (x : List Id). HasPlan (leader_of s.me term v.node.accepted committed x (policy_at s v.led_from v.moment)) tasks plan) votes_is has)
 
 module _ {K : Type 0} (k : Ghosts K) where
   abbrev view : Coordinator K → View

@@ -20,8 +20,7 @@ use Rattle.world_model.specs.declared.acts.Act.{Act}
 use Rattle.world_model.specs.declared.acts.Act.TheVariants.{Value}
 use Rattle.policy_model.specs.declared.settings.Settings.{Settings}
 use Rattle.policy_model.specs.Events.{Item, Notes, StateMade}
-use Rattle.policy_model.specs.Views.{View}
-use Rattle.policy_model.specs.Parts.{as_master}
+use Rattle.policy_model.specs.Views.{View, master_now}
 use Rattle.policy_model.specs.Moves.{moved}
 use Rattle.policy_model.specs.Doing.{is_leader, is_voting_only, may_win, send_all, reply_all, act_now, after_act, takes, becomes_candidate}
 use Rattle.policy_model.specs.NextState.{is_in_flight, targets_of, responders_of, successor_of, asks_successor, asks_votes, wants_votes, leads_on, hands_over, goes_on, value_now, config_now, value_act, state_now, publishes, makes_state}

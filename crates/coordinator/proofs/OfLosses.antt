@@ -6,12 +6,11 @@ use Rattle.voting_config.specs.Ids.{Id, has, with_room}
 use Rattle.peer_finder.specs.Peers.{answer_in}
 use Rattle.fault_checks.specs.Followers.{ids_of}
 use Rattle.master_tasks.specs.Queue.{Tasks, to_be_removed}
-use Rattle.master_tasks.specs.NextState.{leader_of}
 use Rattle.world_model.specs.Replies.{elects}
 use Rattle.policy_model.specs.declared.settings.Settings.{Settings}
 use Rattle.policy_model.specs.declared.events.DropCause.TheVariants.{Disconnect}
 use Rattle.policy_model.specs.Events.{Item, Drops, Notes, PeerLost, LeaderLost}
-use Rattle.policy_model.specs.Views.{View}
+use Rattle.policy_model.specs.Views.{View, master_now}
 use Rattle.policy_model.specs.Moves.{moved_all}
 use Rattle.policy_model.specs.Doing.{then_rule, becomes_candidate, is_second}
 use Rattle.policy_model.specs.NextState.{is_in_flight, is_hopeless}
@@ -30,9 +29,9 @@ use Rattle.coordinator.proofs.Composing.{ends_rule, makes_then}
 use Rattle.coordinator.proofs.Foreseen.{has_planned}
 
 pub planned_loss : (s : Settings) (v : View) (p : Id) (plan : Option Plan) (copy tasks : Tasks) → copy ≡ v.tasks → tasks ≡ to_be_removed copy p
-    → HasPlan (leader_of s.me v.node.term v.node.accepted v.node.committed v.node.join_votes s.policy) tasks plan → IsPlanned s (moved_all s v (drops_follower s p)) plan
+    → HasPlan (master_now s v) tasks plan → IsPlanned s (moved_all s v (drops_follower s p)) plan
 planned_loss s v p plan copy tasks copy_is tasks_is has_it =
-    has_planned s (moved_all s v (drops_follower s p)) (leader_of s.me v.node.term v.node.accepted v.node.committed v.node.join_votes s.policy) tasks plan has_it refl
+    has_planned s (moved_all s v (drops_follower s p)) (master_now s v) tasks plan has_it refl
     (tasks_is ∙ ap (λ (t : Tasks). to_be_removed t p) copy_is)
 
 -- the quorum of a leader, by the followers that it watches

@@ -19,7 +19,7 @@ use Rattle.policy_model.specs.declared.events.DropCause.TheVariants.{Checks, Lag
 use Rattle.policy_model.specs.declared.events.MemberDrop.{MemberDrop}
 use Rattle.policy_model.specs.Events.{Item, Drops, Notes, ExclusionsTimedOut, FollowersChecked}
 use Rattle.policy_model.specs.Parts.{followers_ticked}
-use Rattle.policy_model.specs.Views.{View}
+use Rattle.policy_model.specs.Views.{View, master_now}
 use Rattle.policy_model.specs.Moves.{moved, moved_all}
 use Rattle.policy_model.specs.Doing.{reply_all, send_all}
 use Rattle.policy_model.specs.Checks.{drop_all, checks_followers}
@@ -28,7 +28,6 @@ use Rattle.policy_model.proofs.Sweeps.{moved_all-append, moved_all-replies, move
 use Rattle.coordinator.specs.Plans.{frame_to, IsPlanned}
 use Rattle.coordinator.specs.Ahead.{HasPlan}
 use Rattle.coordinator.specs.declared.plan.Plan.{Plan}
-use Rattle.master_tasks.specs.NextState.{leader_of}
 use Rattle.coordinator.proofs.Foreseen.{has_planned}
 use Rattle.coordinator.specs.Ticks.{all_removed, dropped, tasks_ticked, ticks_members, IsPlannedTick}
 use Rattle.coordinator.specs.Showing.{Shown, showing, showing_all}
@@ -78,7 +77,7 @@ tick_planned s v plan is =
     moved_all-append s v (times_out_exclusions s v) (checks_followers s (moved_all s v (times_out_exclusions s v)))
     ∙ ap (λ (x : View). moved_all s x (checks_followers s x)) (moved-times s v) ∙ moved-checks s u in
     subst (λ (w : View). IsPlanned s w plan) (sym here)
-    (has_planned s (record u { tasks = tasks_ticked v; followers = followers_ticked u.followers u.moment }) (leader_of s.me v.node.term v.node.accepted v.node.committed v.node.join_votes s.policy) (tasks_ticked v) plan is refl refl)
+    (has_planned s (record u { tasks = tasks_ticked v; followers = followers_ticked u.followers u.moment }) (master_now s v) (tasks_ticked v) plan is refl refl)
 
 no_items : {A : Type 0} (xs : List A) → length xs ≡ 0 → xs ≡ []
 no_items [] h = refl
@@ -98,9 +97,9 @@ tasks_kept v none all =
 
 pub planned_tick : (s : Settings) (v : View) (plan : Option Plan) (t3 t2 t1 copy : Tasks) (checks lag committed : List Id) (fs : Followers) → t3 ≡ all_removed t2 lag → t2 ≡ all_removed t1 checks → t1 ≡ without_answered (timed_out committed v.moment) copy → copy ≡ v.tasks
     → committed ≡ v.node.committed → checks ≡ to_drop_for_checks fs.watched v.moment → lag ≡ to_drop_for_lag fs.watched v.moment → fs ≡ v.followers
-    → HasPlan (leader_of s.me v.node.term v.node.accepted v.node.committed v.node.join_votes s.policy) t3 plan → IsPlannedTick s v plan
+    → HasPlan (master_now s v) t3 plan → IsPlannedTick s v plan
 planned_tick s v plan t3 t2 t1 copy checks lag committed fs t3_is t2_is t1_is copy_is committed_is checks_are lag_is fs_are has =
-    subst (λ (t : Tasks). HasPlan (leader_of s.me v.node.term v.node.accepted v.node.committed v.node.join_votes s.policy) t plan)
+    subst (λ (t : Tasks). HasPlan (master_now s v) t plan)
     (t3_is ∙ ap (λ (t : Tasks). all_removed t lag) (t2_is ∙ ap (λ (t : Tasks). all_removed t checks) (t1_is ∙ ap (λ (c : List Id). without_answered (timed_out c v.moment) copy) committed_is ∙ ap (λ (t : Tasks). without_answered (timed_out v.node.committed v.moment) t) copy_is))
     ∙ ap (λ (x : List Id). all_removed (all_removed (without_answered (timed_out v.node.committed v.moment) v.tasks) x) lag) (checks_are ∙ ap (λ (f : Followers). to_drop_for_checks f.watched v.moment) fs_are)
     ∙ ap (λ (x : List Id). all_removed (all_removed (without_answered (timed_out v.node.committed v.moment) v.tasks) (to_drop_for_checks v.followers.watched v.moment)) x) (lag_is ∙ ap (λ (f : Followers). to_drop_for_lag f.watched v.moment) fs_are))

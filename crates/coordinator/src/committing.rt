@@ -1,10 +1,8 @@
 //! Commits, by which a publication is finished.
 ghost use Rattle.std.specs.Prelude.{◌≡◌, ◌≤◌, ◌+◌, [], ◌∷◌, true, length, is_ok, IfOk};
-ghost use Rattle.master_tasks.specs.NextState.{leader_of};
-ghost use Rattle.policy_model.specs.Parts.{policy_at};
 ghost use Rattle.policy_model.specs.Publications.{answers_applied, on_commit};
 ghost use Rattle.policy_model.specs.Moves.{moved_all};
-ghost use Rattle.coordinator.specs.Ahead.{HasPlan, IsAnswered, IsPlannedCommit, finishes};
+ghost use Rattle.coordinator.specs.Ahead.{IsAnswered, IsPlannedCommit, finishes};
 ghost use Rattle.coordinator.specs.Does.{Does, DoesAll};
 ghost use Rattle.coordinator.specs.Plans.{IsPlanned, replies_planned};
 ghost use Rattle.coordinator.specs.Rooms.{Uses, to_set};
@@ -14,7 +12,7 @@ use crate::coordinator::{Acted, Coordinator, DiskFailed, EventError};
 use crate::output::Output;
 use crate::plan::Plan;
 use cluster_state::{ApplyCommit, StateId};
-use master_tasks::{Applied, MasterTasks};
+use master_tasks::Applied;
 use state_journal::Keeper;
 use std::alloc::{AllocError, Global};
 use voting_config::{NodeId, VotingConfig};
@@ -58,42 +56,22 @@ impl<K: Keeper> Coordinator<K> {
         requires { committed.now ≡ (K.record_of self.now.core.keeper).accepted.config }
         ensures { IfOk result (λ finish. IsPlannedCommit self.now.settings (view_in K.Keeper self.now) finish) }
     {
+        let (led_from, term, votes) = (self.led_from, self.core.term(), self.core.votes());
         if self.tasks.open_count() == 0 {
+            let plan = self.plan_over(alloc, led_from, term, committed, &self.tasks, votes)?;
             return Ok(Finish {
                 applied: None,
-                plan: self.plan_under(alloc, committed, &self.tasks)?,
+                plan,
             });
         }
         let applied = self
             .tasks
             .once_applied(committed, &self.core.kept().accepted)?;
-        let plan = self.plan_under(alloc, committed, &applied.tasks)?;
+        let plan = self.plan_over(alloc, led_from, term, committed, &applied.tasks, votes)?;
         Ok(Finish {
             applied: Some(applied),
             plan,
         })
-    }
-
-    // What going on will take with these tasks, where this configuration is committed.
-    fn plan_under(
-        &self,
-        alloc: Global,
-        committed: &VotingConfig,
-        tasks: &MasterTasks,
-    ) -> Result<Option<Plan>, AllocError>
-        ensures { IfOk result
-            (λ plan. HasPlan (leader_of self.now.settings.me (K.record_of self.now.core.keeper).term
-            (K.record_of self.now.core.keeper).accepted committed.now self.now.core.join_votes
-            (policy_at self.now.settings self.now.led_from self.now.moment)) tasks.now plan) }
-    {
-        self.plan_over(
-            alloc,
-            self.led_from,
-            self.core.term(),
-            committed,
-            tasks,
-            self.core.votes(),
-        )
     }
 
     // Who waited for the leader to take the commit is answered.

@@ -6,6 +6,7 @@ ghost use Rattle.client_lines.specs.Reading.{line_request};
 ghost use Rattle.cluster_state.specs.Puts.{bad_setting_of};
 ghost use Rattle.master_tasks.specs.Queue.{is_full_of, offered, arriving};
 ghost use Rattle.master_tasks.specs.NextState.{leader_of as master_of};
+ghost use Rattle.policy_model.specs.Parts.{policy_at};
 ghost use Rattle.policy_model.specs.Doing.{is_leader};
 ghost use Rattle.policy_model.specs.NextState.{is_in_flight};
 ghost use Rattle.policy_model.specs.Requests.{replies, takes_line};

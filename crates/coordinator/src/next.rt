@@ -2,8 +2,7 @@
 ghost use Rattle.std.specs.Prelude.{◌≡◌, ◌≤◌, ◌+◌, ◌^◌, Some, true, false, not, ◌&&◌, length, find, if◌then◌else◌};
 ghost use Rattle.voting_config.specs.Ids.{has};
 ghost use Rattle.master_tasks.specs.NextState.{next_answers};
-ghost use Rattle.policy_model.specs.Views.{View};
-ghost use Rattle.policy_model.specs.Parts.{as_master};
+ghost use Rattle.policy_model.specs.Views.{View, master_now};
 ghost use Rattle.policy_model.specs.Doing.{is_leader, may_win as may_win_of};
 ghost use Rattle.policy_model.specs.NextState.{asks_votes, goes_on, lacks_vote as lacks_vote_of, wants_votes as wants_votes_of, makes_state, hands_over, publishes, is_in_flight as is_in_flight_of, asks_successor, successor_of};
 ghost use Rattle.coord_state.specs.StandsFor.{request_of};

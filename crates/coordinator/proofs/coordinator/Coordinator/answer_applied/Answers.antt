@@ -1,17 +1,23 @@
-use Rattle.std.proofs.Common.{ap, arith, ◌∙◌}
-use Rattle.cluster_state.specs.declared.state.ClusterState.{ClusterState}
-use Rattle.cluster_state.specs.States.{id_of}
-use Rattle.master_tasks.specs.Answering.{applied_in}
+use Rattle.std.proofs.Common.{ap, arith, subst, sym, Option}
+use Rattle.master_tasks.specs.declared.tasks.Applied.{Applied}
 use Rattle.master_tasks.specs.Replying.{Replies}
+use Rattle.coordinator.specs.Ahead.{IsAnswered}
 use Rattle.coordinator.specs.Showing.{shown_in}
-use Rattle.coordinator.proofs.Counting.{length-answers}
-use Rattle.coordinator.proofs.Finishing.{acks_made}
+use Rattle.coordinator.proofs.Finishing.{answered_made, few_answered}
 use Rattle.coordinator.proofs.coordinator.Coordinator.answer_applied.Goals as goal
 
-pub returns-clause-does : goal.returns-clause-does
-returns-clause-does g c =
-    acks_made g.K.Keeper c.args.self.now c.answer_applied.new.self _ _ c.committed.result.now c.id-id.result c.committed.ensures (c.id-id.ensures ∙ ap (λ (a : ClusterState). id_of a) c.accepted.ensures.accepted) c.answer_applied.ensures.left (ap (λ (r : Replies). record (shown_in c.args.out.now) { replies = r.sent }) c.answer_applied.ensures.sent)
+pub append-requires : goal.append-requires
+append-requires g c =
+    let is = subst (λ (x : Option Applied). IsAnswered g.K.Keeper c.args.self.now x) (sym c.in-Some.ensures.value) c.requires.applied in
+    omega (arith, few_answered g.K.Keeper c.args.self.now c.in-Some.field-0 is, c.requires.replies)
 
-pub returns-clause-uses : goal.returns-clause-uses
-returns-clause-uses g c =
-    let room = ap (λ (r : Replies). r.room) c.answer_applied.ensures.sent in record { deeds = omega arith; frames = omega arith; replies = omega (arith, room, length-answers (applied_in c.committed.result.now c.id-id.result) c.args.self.now.tasks.waiting) }
+pub returns-in-Some-clause-does : goal.returns-in-Some-clause-does
+returns-in-Some-clause-does g c =
+    let is = subst (λ (x : Option Applied). IsAnswered g.K.Keeper c.args.self.now x) (sym c.in-Some.ensures.value) c.requires.applied in
+    answered_made g.K.Keeper c.args.self.now c.in-Some.field-0 _ _ is (ap (λ (r : Replies). record (shown_in c.args.out.now) { replies = r.sent }) c.append.ensures)
+
+pub returns-in-Some-clause-uses : goal.returns-in-Some-clause-uses
+returns-in-Some-clause-uses g c =
+    let is = subst (λ (x : Option Applied). IsAnswered g.K.Keeper c.args.self.now x) (sym c.in-Some.ensures.value) c.requires.applied in
+    let room = ap (λ (r : Replies). r.room) c.append.ensures in
+    record { deeds = omega arith; frames = omega arith; replies = omega (arith, room, few_answered g.K.Keeper c.args.self.now c.in-Some.field-0 is) }

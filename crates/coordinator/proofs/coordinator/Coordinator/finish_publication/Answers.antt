@@ -10,7 +10,7 @@ go_on-requires-clause-ready g c =
 
 pub go_on-requires-clause-plan : goal.go_on-requires-clause-plan
 go_on-requires-clause-plan g c =
-    planned_there g.K.Keeper c.args.self.now c.answer_applied.new.self _ c.args.plan.now (λ s v. v) c.answer_applied.ensures.does.goes c.requires.plan
+    planned_there g.K.Keeper c.args.self.now c.answer_applied.new.self _ c.args.finish.now.plan (λ s v. v) c.answer_applied.ensures.does.goes c.requires.plan
 
 pub returns : goal.returns
 returns g c =
