@@ -52,8 +52,7 @@ use Rattle.policy_model.specs.declared.events.Event.TheVariants.{Start, Tick, Fr
 use Rattle.policy_model.specs.declared.events.DropCause.{DropCause}
 use Rattle.policy_model.specs.declared.events.DropCause.TheVariants.{Checks, Lag, Disconnect}
 use Rattle.policy_model.specs.Events.{Note, Met, Heard, HandedOver, PeerLost, RoundEnded, RoundBegun, RoundAnswered, ElectionSet, ElectionOff, PeersAsked, AppliedAnswered, FollowersChecked, ExclusionsTimedOut, Joined, Queued, LeaderChecked, StateMade, CommitAcked, Item, ChangesMode, Drops, Sends, Replies, Notes}
-use Rattle.policy_model.specs.Parts.{as_master}
-use Rattle.policy_model.specs.Views.{View}
+use Rattle.policy_model.specs.Views.{View, master_now}
 use Rattle.policy_model.specs.Moves.{moved, moved_all, noted, mode_changed}
 use Rattle.policy_model.specs.Doing as doing
 use Rattle.policy_model.specs.NextState as next

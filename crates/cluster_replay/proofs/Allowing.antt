@@ -44,9 +44,9 @@ use Rattle.policy_model.specs.declared.events.DropCause.{DropCause}
 use Rattle.policy_model.specs.Events.{Note, Met, Heard, PeersAsked, ElectionOff, ElectionSet, RoundBegun, RoundAnswered, RoundEnded, Joined, FollowersChecked, FollowerAnswered, LeaderChecked, LeaderAnswered, Queued, ExclusionsTimedOut, CommitAcked, AppliedAnswered, StateMade, HandedOver, PeerLost, LeaderLost, Item, Acts, ChangesMode, Drops, Sends, Replies, Notes}
 use Rattle.policy_model.specs.Entries.{frames_in}
 use Rattle.policy_model.specs.Joins.{join_from}
-use Rattle.policy_model.specs.Parts.{all_to_be_added, as_master, finished, followers_ticked, follower_answered, heard, met, peers_asked, responded, state_finished}
+use Rattle.policy_model.specs.Parts.{all_to_be_added, finished, followers_ticked, follower_answered, heard, met, peers_asked, responded, state_finished}
 use Rattle.policy_model.specs.LookBacks.{sends_one}
-use Rattle.policy_model.specs.Views.{View}
+use Rattle.policy_model.specs.Views.{View, master_now}
 use Rattle.policy_model.specs.Moves.{moved, moved_all, acted, mode_changed, noted}
 use Rattle.system_laws.proofs.Meant.{Covers, sent_after, covers-after}
 use Rattle.trace_text.proofs.IdLists.{none_set}

@@ -27,10 +27,9 @@ use Rattle.policy_model.specs.declared.events.Event.{Event}
 use Rattle.policy_model.specs.Events.{Met, Heard, PeersAsked, ElectionOff, ElectionSet, RoundBegun, RoundAnswered, RoundEnded, Joined, FollowersChecked, FollowerAnswered, LeaderChecked, LeaderAnswered, Queued, ExclusionsTimedOut, CommitAcked, AppliedAnswered, StateMade, HandedOver, PeerLost, LeaderLost, Item, Opens, Begins, Acts, ChangesMode, Drops, Sends, Replies, Notes, Log, And, added, acts_of}
 use Rattle.policy_model.specs.Entries.{Life, NotBegun, Opened, Lived, Did, Gone, Bad, NoMemory, Unread, log_of}
 use Rattle.policy_model.specs.Follows.{Follows, items_of}
-use Rattle.policy_model.specs.LookBacks.{node_of, tasks_of}
+use Rattle.policy_model.specs.LookBacks.{node_of, tasks_of, master_of}
 use Rattle.policy_model.specs.Moves.{moved, is_own, are_own, view_of-And}
-use Rattle.policy_model.specs.Parts.{as_master}
-use Rattle.policy_model.specs.Views.{View, view_of}
+use Rattle.policy_model.specs.Views.{View, view_of, master_now}
 use Rattle.policy_model.proofs.Answering.{answered-next}
 use Rattle.policy_model.proofs.Standing.{own-answered}
 use Rattle.client_guarantees.specs.Lasting.{IsPartOf}

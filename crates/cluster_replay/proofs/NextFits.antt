@@ -103,25 +103,25 @@ formed-clear : (v : ClusterValue) (r : Result (Unit {0}) StillMember) → IsWell
 formed-clear v (Ok u) f = record { master = f.master; members = f.members; exclusions = no_ids; settings = f.settings }
 formed-clear v (Err e) f = f
 
-formed-ask : (accepted : ClusterState) (v : ClusterValue) (a : Ask) → IsWellFormed v → IsGoodAsk a → IsWellFormed (value_after v (processing accepted v a))
-formed-ask accepted v (ask.Put key text) f good = formed-put v (key, text) f good
-formed-ask accepted v (ask.Remove key) f good = record { master = f.master; members = f.members; exclusions = f.exclusions; settings = IsSettings-without key v.settings f.settings }
-formed-ask accepted v (ask.Exclude asked) f good = formed-exclude v asked f good.each
-formed-ask accepted v (ask.Clear wait) f good = formed-clear v (cleared_of v.exclusions v.members wait) f
-formed-ask accepted v ask.State f good = f
+formed-ask : (second : Bool) (accepted : ClusterState) (v : ClusterValue) (a : Ask) → IsWellFormed v → IsGoodAsk a → IsWellFormed (value_after v (processing second accepted v a))
+formed-ask second accepted v (ask.Put key text) f good = formed-put v (key, text) f good
+formed-ask second accepted v (ask.Remove key) f good = record { master = f.master; members = f.members; exclusions = f.exclusions; settings = IsSettings-without key v.settings f.settings }
+formed-ask second accepted v (ask.Exclude asked) f good = formed-exclude v asked f good.each
+formed-ask second accepted v (ask.Clear wait) f good = formed-clear v (cleared_of v.exclusions v.members wait) f
+formed-ask second accepted v ask.State f good = elim second as (λ b. IsWellFormed (value_after v (if b then Makes v else AnsweredAtOnce (answer.State accepted)))) [ true ↦ f | false ↦ f ]
 
-formed-once : (accepted : ClusterState) (v : ClusterValue) (w : Waiting) → IsWellFormed v → IsGoodAsk w.request.ask → IsWellFormed (value_after v (processing_once accepted v w))
-formed-once accepted v w f good =
-    elim w.processed as (λ b. IsWellFormed (value_after v (if b then Makes v else processing accepted v w.request.ask))) [
+formed-once : (second : Bool) (accepted : ClusterState) (v : ClusterValue) (w : Waiting) → IsWellFormed v → IsGoodAsk w.request.ask → IsWellFormed (value_after v (processing_once second accepted v w))
+formed-once second accepted v w f good =
+    elim w.processed as (λ b. IsWellFormed (value_after v (if b then Makes v else processing second accepted v w.request.ask))) [
       | true ↦ f
-      | false ↦ formed-ask accepted v w.request.ask f good
+      | false ↦ formed-ask second accepted v w.request.ask f good
     ]
 
-formed-all : (accepted : ClusterState) (p : Processed) (ws : List Waiting) → IsWellFormed p.value → AllByRecursion (λ w. IsGoodRequest w.request) ws → IsWellFormed (fold (with_next accepted) p ws).value
-formed-all accepted p [] f good = f
-formed-all accepted p (w ∷ ws) f good =
+formed-all : (second : Bool) (accepted : ClusterState) (p : Processed) (ws : List Waiting) → IsWellFormed p.value → AllByRecursion (λ w. IsGoodRequest w.request) ws → IsWellFormed (fold (with_next second accepted) p ws).value
+formed-all second accepted p [] f good = f
+formed-all second accepted p (w ∷ ws) f good =
     let P : ClusterValue → Type 0 = IsWellFormed in
-    formed-all accepted (with_next accepted p w) ws (subst P (value_then p w (processing_once accepted p.value w)) (formed-once accepted p.value w f good.0.good)) good.1
+    formed-all second accepted (with_next second accepted p w) ws (subst P (value_then p w (processing_once second accepted p.value w)) (formed-once second accepted p.value w f good.0.good)) good.1
 
 -- ---- the next configuration
 
@@ -236,7 +236,7 @@ formed-before me t v h a f = record { master = fits_id me h; members = set-membe
 
 formed-next : (l : Leader) (t : Tasks) → is_id l.me ≡ true → FitAccepted l.accepted → FitTasks t → IsWellFormed (next_value l t)
 unfolding processed_by next_value
-formed-next l t h f g = formed-all l.accepted (before_all (value_before l.me t l.accepted.value)) t.waiting (formed-before l.me t l.accepted.value h g.additions (formed-of l.accepted.value f.value)) g.waiting
+formed-next l t h f g = formed-all l.policy.second l.accepted (before_all (value_before l.me t l.accepted.value)) t.waiting (formed-before l.me t l.accepted.value h g.additions (formed-of l.accepted.value f.value)) g.waiting
 
 pub next-value-fits : (l : Leader) (t : Tasks) → is_id l.me ≡ true → FitAccepted l.accepted → FitTasks t → value_field.Fits (next_value l t)
 next-value-fits l t h f g =
@@ -264,15 +264,15 @@ good-then : (p : Processed) (w : Waiting) (step : Processing) → AllByRecursion
 good-then p w (AnsweredAtOnce a) h good = h
 good-then p w (Makes v) h good = each_append _ p.waiting (record w { processed = true } ∷ []) h (good, tt)
 
-good-all : (accepted : ClusterState) (p : Processed) (ws : List Waiting) → AllByRecursion (λ w. IsGoodRequest w.request) p.waiting → AllByRecursion (λ w. IsGoodRequest w.request) ws
-    → AllByRecursion (λ w. IsGoodRequest w.request) (fold (with_next accepted) p ws).waiting
-good-all accepted p [] h good = h
-good-all accepted p (w ∷ ws) h good = good-all accepted (with_next accepted p w) ws (good-then p w (processing_once accepted p.value w) h good.0) good.1
+good-all : (second : Bool) (accepted : ClusterState) (p : Processed) (ws : List Waiting) → AllByRecursion (λ w. IsGoodRequest w.request) p.waiting → AllByRecursion (λ w. IsGoodRequest w.request) ws
+    → AllByRecursion (λ w. IsGoodRequest w.request) (fold (with_next second accepted) p ws).waiting
+good-all second accepted p [] h good = h
+good-all second accepted p (w ∷ ws) h good = good-all second accepted (with_next second accepted p w) ws (good-then p w (processing_once second accepted p.value w) h good.0) good.1
 
 pub fit-after : (l : Leader) (t : Tasks) → FitTasks t → FitTasks (tasks_after l t)
 unfolding tasks_after processed_by
 fit-after l t g =
-    let all = good-all l.accepted (before_all (value_before l.me t l.accepted.value)) t.waiting tt g.waiting in
+    let all = good-all l.policy.second l.accepted (before_all (value_before l.me t l.accepted.value)) t.waiting tt g.waiting in
     record {
       additions = none_set;
       waiting = elim (is_nothing_new l t) as (λ b. AllByRecursion (λ w. IsGoodRequest w.request) (if b then unacked l (processed_by l t).waiting else (processed_by l t).waiting)) [
