@@ -16,7 +16,7 @@ use Rattle.coordinator.proofs.Leaving.{did_leaves}
 use Rattle.policy_model.specs.declared.settings.Settings.{Settings}
 use Rattle.policy_model.specs.declared.events.Event.{Event}
 use Rattle.policy_model.specs.Events.{Item, Opens, Begins, Acts, ChangesMode, Drops, Sends, Replies, Notes, Log, And, added, acts_of}
-use Rattle.policy_model.specs.Entries.{Life, Lived, Did, log_of, frames_of, by_receiver}
+use Rattle.policy_model.specs.Entries.{Life, Lived, Entry, Did, log_of, frames_of, by_receiver}
 use Rattle.policy_model.specs.Follows.{IsStruck, has_fault, is_start, starts_next, items_of}
 use Rattle.policy_model.specs.Views.{View, view_of}
 use Rattle.policy_model.proofs.Locals.{struck_fault}
@@ -25,7 +25,6 @@ use Rattle.node_loop.specs.declared.lines.LastSent.{LastSent}
 use Rattle.node_loop.specs.Crashes.{Holds, IsLeftBy, has_crashed}
 use Rattle.node_loop.specs.Reporting.{Reports, AreLined, sent_of}
 use Rattle.node_loop.specs.EventNodes.{Does, IsHalted}
-use Rattle.node_loop.specs.Texts.{entry_text}
 use Rattle.node_loop.proofs.Lasting.{leaves_now, leaves_struck}
 
 module _ {C K : Type 0} (k : Ghosts K)
@@ -86,12 +85,12 @@ module _ {C K : Type 0} (k : Ghosts K)
         uncrashed = refl;
       }
 
-  pub did : (old new : C) (s : Settings) (life : Life) (event : Event) (sealed : Sealed) (lines : Option (List ℕ))
+  pub did : (text : Settings → Life → Entry → List ℕ) (old new : C) (s : Settings) (life : Life) (event : Event) (sealed : Sealed) (lines : Option (List ℕ))
       → stands_in old s life → is_start event ≡ starts_next life → k.has_stopped (node_in old).core.keeper ≡ false
       → DoneBy k (node_in old) (node_in new) event (items_of (node_in old).settings (log_of life) event) sealed
-      → AreLined s.me (last_sent_in old) sealed.entries sealed.sends.list sealed.replies.sent lines (last_sent_in new)
-      → Does (holds_in old life) (entry_text s) s life event new sent_of (record { sealed = sealed; lines = lines })
-  did old new s life event sealed lines r start runs done lined =
+      → AreLined text s.me (last_sent_in old) sealed.entries sealed.sends.list sealed.replies.sent lines (last_sent_in new)
+      → Does (holds_in old life) (text s) s life event new sent_of (record { sealed = sealed; lines = lines })
+  did text old new s life event sealed lines r start runs done lined =
       let items = items_of (node_in old).settings (log_of life) event in
       let whole : has_fault items ≡ false = next-fault (node_in old).settings (view_of (node_in old).settings (And (log_of life) (Begins event))) event in
       let written = lined s life event items refl r.lines done.seals.entries done.seals.sends done.seals.replies in
@@ -124,12 +123,12 @@ module _ {C K : Type 0} (k : Ghosts K)
         sends = ap (λ l. record { frames = l; replies = sealed.replies.sent }) done.seals.sends ∙ ap (λ l. record { frames = frames_of items; replies = l }) done.seals.replies;
       }
 
-  pub broke : (old new : C) (s : Settings) (life : Life) (event : Event) (told : Entries) (lines : Option (List ℕ))
+  pub broke : (text : Settings → Life → Entry → List ℕ) (old new : C) (s : Settings) (life : Life) (event : Event) (told : Entries) (lines : Option (List ℕ))
       → stands_in old s life → is_start event ≡ starts_next life → k.has_stopped (node_in old).core.keeper ≡ false
       → Failed k (node_in old) (node_in new) event (items_of (node_in old).settings (log_of life) event) told
-      → AreLined s.me (last_sent_in old) told [] [] lines (last_sent_in new)
-      → IsHalted (holds_in old life) (entry_text s) s life event new lines
-  broke old new s life event told lines r start runs failed lined =
+      → AreLined text s.me (last_sent_in old) told [] [] lines (last_sent_in new)
+      → IsHalted (holds_in old life) (text s) s life event new lines
+  broke text old new s life event told lines r start runs failed lined =
       let items = items_of (node_in old).settings (log_of life) event in
       let whole : has_fault items ≡ false = next-fault (node_in old).settings (view_of (node_in old).settings (And (log_of life) (Begins event))) event in
       let fault : has_fault failed.left ≡ true = struck_fault items failed.left failed.struck in

@@ -18,7 +18,7 @@ use Rattle.node_loop.specs.declared.lines.LastSent.{LastSent}
 use Rattle.node_loop.specs.Crashes.{LeavesLast, last_idle}
 use Rattle.node_loop.specs.Reports.{Output, IsIdle}
 use Rattle.node_loop.specs.EventNodes.{AreLines}
-use Rattle.node_loop.specs.Texts.{IsLastSent, entry_text}
+use Rattle.node_loop.specs.Texts.{IsLastSent}
 
 -- The node has these settings and is what its life makes of it; it is halted exactly where its last event was struck. A crash now
 -- leaves the last record of its life. What it keeps for its lines is right, or lost.
@@ -36,12 +36,12 @@ sent_of sealed = record { frames = sealed.sends.list; replies = sealed.replies.s
 
 -- Where what was kept is right for a life, the lines of an event with these entries, frames and replies are those of its entry, and
 -- what is kept then is right for the life with it; or there are no lines, and nothing is kept.
-abbrev pub AreLined : Id → Option LastSent → Entries → List Frame → List Outgoing → Option (List ℕ) → Option LastSent → Type 0
-AreLined node last_sent entries frames replies lines kept =
+abbrev pub AreLined : (text : Settings → Life → Entry → List ℕ) → Id → Option LastSent → Entries → List Frame → List Outgoing → Option (List ℕ) → Option LastSent → Type 0
+AreLined text node last_sent entries frames replies lines kept =
     (s : Settings) (life : Life) (event : Event) (items : List Item) → node ≡ s.me → IsLastSent last_sent life
     → AreEntries event items entries
     → frames ≡ frames_of items → replies ≡ replies_of items
-    → AreLines lines (entry_text s life (Did event items)) × IsLastSent kept (Lived life (Did event items))
+    → AreLines lines (text s life (Did event items)) × IsLastSent kept (Lived life (Did event items))
 
 -- ---- an entry of no event changes nothing that a node stands for
 

@@ -19,7 +19,7 @@ use Rattle.policy_model.specs.declared.events.Event.TheVariants.{Start, Tick, Fr
 use Rattle.policy_model.specs.declared.events.MemberDrop.{MemberDrop}
 use Rattle.policy_model.specs.declared.events.Deed.{Deed}
 use Rattle.policy_model.specs.declared.settings.Settings.{Settings}
-use Rattle.policy_model.specs.Events.{acts_of}
+use Rattle.policy_model.specs.Events.{Item, acts_of}
 use Rattle.policy_model.specs.Entries.{Entry, Did, Gone, Bad, NoMemory, Unread, Life, NotBegun, Opened, Lived, log_of, deeds_of, drops_of, frames_of, replies_of}
 use Rattle.node_loop.specs.declared.lines.LastSent.{LastSent}
 
@@ -98,3 +98,31 @@ entry_text s life (Unread conn) = codes "> nomemory\n"
 abbrev pub opening_text : Settings → Life → List ℕ
 opening_text s life = record_line s.me (term_of (acts_of (log_of life))) (accepted_of (acts_of (log_of life)))
     (committed_of (acts_of (log_of life)))
+
+-- ---- less than all
+
+-- the lines of an entry that say what was done: acts, changes of mode and drops; and those of what was faulty, and of want of memory
+abbrev pub acts_text : Settings → Life → Entry → List ℕ
+acts_text s life (Did event items) = deeds_text s.me (published_of life) (deeds_of items) ++ drops_text s.me (drops_of items)
+acts_text s life (Gone conn) = []
+acts_text s life (Bad conn fault) = bad_line conn fault
+acts_text s life NoMemory = codes "> nomemory\n"
+acts_text s life (Unread conn) = codes "> nomemory\n"
+
+-- none
+abbrev pub no_text : Settings → Life → Entry → List ℕ
+no_text s life e = []
+
+-- ---- for the contracts inside
+
+-- the lines of an entry were written, where what was kept is right for the life before it
+abbrev pub WritesEntry : (text : Settings → Life → Entry → List ℕ) → Id → LastSent → Event → List Deed → List MemberDrop → List Frame
+    → List Outgoing → (was now : List ℕ) → Type 0
+WritesEntry text node kept event deeds drops frames replies was now =
+    (s : Settings) (life : Life) (items : List Item) → node ≡ s.me → IsLastSent (Some kept) life → deeds ≡ deeds_of items
+    → drops ≡ drops_of items → frames ≡ frames_of items → replies ≡ replies_of items → now ≡ was ++ text s life (Did event items)
+
+-- what is kept for later lines
+pub record KeepsLast (was : LastSent) (deeds : List Deed) (frames : List Frame) (now : LastSent) : Type 0 where
+  pub published : now.published ≡ published_after was.published deeds
+  pub number : now.number ≡ number_after was.number frames

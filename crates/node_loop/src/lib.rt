@@ -3,6 +3,7 @@
 
 mod connection;
 mod event_node;
+mod history;
 mod laws;
 mod lines;
 mod node;
@@ -11,6 +12,7 @@ mod reporter;
 
 pub use connection::{Came, Connection};
 pub use event_node::{Done, EventNode, NotDone};
+pub use history::{Acts, All, History, Nothing};
 pub use laws::{
     law_crash_is_kill, law_end_is_kept, law_moment_is_cut, law_next_after_end, law_next_after_kill,
 };

@@ -2,7 +2,9 @@
 ghost use Rattle.std.specs.Prelude.{◌≡◌, ◌++◌, OnOk};
 ghost use Rattle.wire_frames.specs.declared.fault.FrameError.TheVariants.{UnknownKind, Field};
 ghost use Rattle.policy_model.specs.declared.events.Event.TheVariants.{Tick as TickCame, Frame as FrameCame, Client as LineCame, Disconnected as PeerGone};
-ghost use Rattle.node_loop.specs.Texts.{event_line, event_lines, fault_text, next_number, numbered, number_after, bad_line, gone_line};
+ghost use Rattle.node_loop.specs.Texts.{event_line, event_lines, fault_text, next_number, numbered, number_after, bad_line, gone_line, KeepsLast};
+ghost use Rattle.event_text.specs.Deeds.{deeds_text};
+ghost use Rattle.event_text.specs.Events.{drops_text};
 ghost use Rattle.event_text.specs.Published.{published_after};
 
 use cluster_state::{FieldError, LAST_NUMBER, SharedState};
@@ -123,6 +125,38 @@ pub fn write_entry(
     write_drops(text, node, drops)?;
     write_numbered(text, alloc, &mut last_sent.number, frames)?;
     write_replies(text, alloc, node, replies)
+}
+
+// The number of the last of these frames, which are sent after the one of this number.
+fn number_of_last(number: u64, frames: &[Frame]) -> u64
+    ensures { result ≡ number_after number frames.now }
+{
+    let mut last = number;
+    for _frame in frames {
+        last = number_behind(last);
+    }
+    last
+}
+
+/// Writes the acts, changes of mode and drops of an event, without what came and what was sent. Where it answers an error, what is kept for
+/// later lines is lost.
+pub fn write_acts(
+    text: &mut Text,
+    alloc: Global,
+    node: NodeId,
+    last_sent: &mut LastSent,
+    deeds: &[Deed],
+    drops: &[MemberDrop],
+    frames: &[Frame],
+) -> Result<(), AllocError>
+    ensures text { OnOk result
+        (text.new ≡ text.old ++ (deeds_text node last_sent.old.published deeds.now ++ drops_text node drops.now)) }
+    ensures kept { OnOk result (KeepsLast last_sent.old deeds.now frames.now last_sent.new) }
+{
+    write_deeds(text, alloc, node, &mut last_sent.published, deeds)?;
+    write_drops(text, node, drops)?;
+    last_sent.number = number_of_last(last_sent.number, frames);
+    Ok(())
 }
 
 fn write_kind(text: &mut Text, kind: u8) -> Result<(), AllocError>

@@ -12,9 +12,10 @@ ghost use Rattle.node_loop.specs.Intakes.{NoIntakes};
 ghost use Rattle.node_loop.specs.Reporting.{Reports, sent_of};
 ghost use Rattle.node_loop.specs.Running.{HoldsOn};
 ghost use Rattle.node_loop.specs.WritesAndSends.{HasCauses, IsOpened};
-ghost use Rattle.node_loop.specs.Texts.{entry_text, opening_text};
+ghost use Rattle.node_loop.specs.Texts.{opening_text};
 ghost use Rattle.node_loop.specs.Turns.{Reads, Serves};
 
+use crate::history::History;
 use crate::node::{End, Node};
 use crate::reporter::Reporter;
 use coordinator::Sealed;
@@ -25,15 +26,19 @@ use zen_disk::Disks;
 use zen_link::{Link, Sink};
 
 /// A node over the journal on a disk.
-pub type JournalNode<D> = Node<Reporter<StateJournal<D>>>;
+pub type JournalNode<D, H> = Node<Reporter<StateJournal<D>, H>>;
 
-impl<D: Disks> Node<Reporter<StateJournal<D>>> {
+impl<D: Disks, H: History> Node<Reporter<StateJournal<D>, H>> {
     /// Opens a node over the journal on a disk. Its life goes on with the opening of the record that the journal gave.
     ///
     /// # Errors
     ///
     /// Those of [`StateJournal::open`]; and `Memory` where there is none for the connections. Each hands the disk back.
-    pub fn open(alloc: Global, settings: Settings, disk: D) -> Result<JournalNode<D>, OpenError<D>>
+    pub fn open(
+        alloc: Global,
+        settings: Settings,
+        disk: D,
+    ) -> Result<JournalNode<D, H>, OpenError<D>>
         ensures stands { IfOk result
             (λ node. (life : Life) → ContinuesUnlessFirst (acts_of (log_of life)) (Open node.inner.node.core.keeper.kept)
             → Reports ⟦<StateJournal<D> as Keeper>⟧ node.inner.node node.inner.last_sent settings
@@ -85,7 +90,7 @@ impl<D: Disks> Node<Reporter<StateJournal<D>>> {
     ) -> (D, End)
         ensures serves { (s : SettingsOf) (life : Life) → Reports ⟦<StateJournal<D> as Keeper>⟧ self.inner.node self.inner.last_sent s life
             → IsOpened life → Reads self.connections.items NoIntakes
-            → Serves sent_of (entry_text s) s life result.1 (O.written out.old) (O.written out.new) (L.told link.old) (L.told link.new)
+            → Serves sent_of (H.lines s) s life result.1 (O.written out.old) (O.written out.new) (L.told link.old) (L.told link.new)
             (HoldsOn D.Disks self.inner.node.core.keeper.log.disk result.0 s life) (L.asked link.old) (L.asked link.new) turns
             (opening_text s life) }
         ensures causes { HasCauses (Some result.1) (D.faults self.inner.node.core.keeper.log.disk) (D.faults result.0) (O.faults out.old)

@@ -8,38 +8,42 @@ ghost use Rattle.policy_model.specs.Events.{acts_of};
 ghost use Rattle.node_loop.specs.Reporting.{AreLined, Reports};
 
 use crate::event_node::{Done, EventNode, NotDone};
-use crate::lines::{LastSent, write_bad, write_entry, write_gone};
+use crate::history::History;
+use crate::lines::LastSent;
 use coordinator::{Coordinator, Entries, Sealed};
 use master_tasks::Outgoing;
 use policy_model::{Event, Settings};
 use state_journal::Keeper;
 use std::alloc::{AllocError, Global};
+use std::marker::PhantomData;
 use std::mem;
 use text::Text;
 use trace_text::write_record;
 use voting_config::NodeId;
 use wire_frames::{Frame, FrameError};
 
-/// The coordinator of a node, with what the lines need that say what it does.
+/// The coordinator of a node, with what the lines need that say what it does: as much of it as the history has.
 #[derive(Drop)]
-pub struct Reporter<K: Keeper> {
+pub struct Reporter<K: Keeper, H: History> {
+    history: PhantomData<H>,
     me: NodeId,
     node: Coordinator<K>,
-    // None once memory was lacking for the lines of an event: then there are none for later ones.
+    // None once memory was lacking for the lines of an event: then there are none for later ones. None too where none are written.
     last_sent: Option<LastSent>,
     ghost ready: { IsReady node },
     ghost own: { me ≡ node.settings.me },
 }
 
-impl<K: Keeper> Reporter<K> {
+impl<K: Keeper, H: History> Reporter<K, H> {
     /// A node over what keeps its record and has not met a fault. Its first event is the start, which comes once.
-    pub fn open(alloc: Global, settings: Settings, keeper: K) -> Reporter<K>
+    pub fn open(alloc: Global, settings: Settings, keeper: K) -> Reporter<K, H>
         requires { K.has_stopped keeper ≡ false }
         ensures keeper { result.node.core.keeper ≡ keeper }
         ensures stands { (life : Life) → ContinuesUnlessFirst (acts_of (log_of life)) (Open (K.record_of keeper))
             → Reports K.Keeper result.node result.last_sent settings (Opened life (K.record_of keeper)) }
     {
         Reporter {
+            history: PhantomData,
             me: settings.me,
             node: Coordinator::open(alloc, settings, keeper),
             last_sent: Some(LastSent {
@@ -61,6 +65,7 @@ impl<K: Keeper> Reporter<K> {
         ensures { result ≡ self.node.core.keeper }
     {
         let Reporter {
+            history: _,
             me: _,
             node,
             last_sent: _,
@@ -70,7 +75,7 @@ impl<K: Keeper> Reporter<K> {
 }
 
 // The lines of an event; what later ones need is kept.
-fn report(
+fn report<H: History>(
     last_sent: &mut Option<LastSent>,
     alloc: Global,
     node: NodeId,
@@ -78,14 +83,18 @@ fn report(
     frames: &[Frame],
     replies: &[Outgoing],
 ) -> Option<Text>
-    ensures { AreLined node last_sent.old entries.now frames.now replies.now result last_sent.new }
+    ensures { AreLined H.lines node last_sent.old entries.now frames.now replies.now result last_sent.new }
 {
-    let Some(kept) = mem::replace(last_sent, None) else {
+    let kept = mem::replace(last_sent, None);
+    if H::is_silent() {
+        return Some(Text::new(alloc));
+    }
+    let Some(kept) = kept else {
         return None;
     };
     let mut kept = kept;
     let mut text = Text::new(alloc);
-    let Ok(()) = write_entry(
+    let Ok(()) = H::write_entry(
         &mut text,
         alloc,
         node,
@@ -102,9 +111,9 @@ fn report(
     Some(text)
 }
 
-impl<K: Keeper> EventNode for Reporter<K> {
+impl<K: Keeper, H: History> EventNode for Reporter<K, H> {
     ghost use Rattle.node_loop.specs.Reporting.{Reports, reports_idle, sent_of};
-    ghost use Rattle.node_loop.specs.Texts.{entry_text, opening_text};
+    ghost use Rattle.node_loop.specs.Texts.{opening_text};
 
     type Sealed = Sealed;
 
@@ -120,7 +129,7 @@ impl<K: Keeper> EventNode for Reporter<K> {
 
     ghost output = { sent_of };
 
-    ghost text = { entry_text };
+    ghost text = { H.lines };
 
     ghost opening = { opening_text };
 
@@ -129,7 +138,7 @@ impl<K: Keeper> EventNode for Reporter<K> {
     fn step(&mut self, alloc: Global, event: Event) -> Result<Done<Sealed>, NotDone> {
         match self.node.step(alloc, event) {
             Ok(sealed) => {
-                let lines = report(
+                let lines = report::<H>(
                     &mut self.last_sent,
                     alloc,
                     self.me,
@@ -139,7 +148,7 @@ impl<K: Keeper> EventNode for Reporter<K> {
                 );
                 Ok(Done { sealed, lines })
             }
-            Err(coordinator::StepError::Disk(entries)) => Err(NotDone::Disk(report(
+            Err(coordinator::StepError::Disk(entries)) => Err(NotDone::Disk(report::<H>(
                 &mut self.last_sent,
                 alloc,
                 self.me,
@@ -160,17 +169,17 @@ impl<K: Keeper> EventNode for Reporter<K> {
 
     fn bad_line(&self, alloc: Global, conn: u64, fault: FrameError) -> Result<Text, AllocError> {
         let mut text = Text::new(alloc);
-        write_bad(&mut text, conn, fault)?;
+        H::write_bad(&mut text, conn, fault)?;
         Ok(text)
     }
 
     fn gone_line(&self, alloc: Global, conn: u64) -> Result<Text, AllocError> {
         let mut text = Text::new(alloc);
-        write_gone(&mut text, conn)?;
+        H::write_gone(&mut text, conn)?;
         Ok(text)
     }
 
     fn no_memory_line(&self) -> &[u8] {
-        "> nomemory\n".as_bytes()
+        H::no_memory_line()
     }
 }

@@ -14,7 +14,7 @@ use Rattle.state_journal.specs.declared.error.OpenError.TheVariants as refused
 use Rattle.state_journal.specs.Journal.{found_of, record_of_files, FoundAsSome}
 use Rattle.state_journal.specs.Opening.{handed_back, IsWhyOf, RanUntil}
 use Rattle.policy_model.specs.declared.settings.Settings.{Settings}
-use Rattle.policy_model.specs.Entries.{Life, NotBegun, Opened, log_of}
+use Rattle.policy_model.specs.Entries.{Life, Entry, NotBegun, Opened, log_of}
 use Rattle.policy_model.specs.Events.{acts_of}
 use Rattle.policy_model.specs.Follows.{Follows, is_struck}
 use Rattle.node_loop.specs.declared.node.End.{End}
@@ -24,8 +24,10 @@ use Rattle.node_loop.specs.Crashes.{IsLastRecord, has_crashed}
 use Rattle.node_loop.specs.Reporting.{sent_of}
 use Rattle.node_loop.specs.Running.{HoldsOn}
 use Rattle.node_loop.specs.WritesAndSends.{HasCauses}
-use Rattle.node_loop.specs.Texts.{entry_text, opening_text}
+use Rattle.node_loop.specs.Texts.{entry_text, acts_text, no_text, opening_text}
 use Rattle.node_loop.specs.Turns.{Serves}
+use Rattle.command_line.specs.declared.command.HistoryLevel.{HistoryLevel}
+use Rattle.command_line.specs.declared.command.HistoryLevel.TheVariants as history
 use Rattle.command_line.specs.declared.command.NodeWords.{NodeWords}
 use Rattle.zen_host.specs.Views.{HostView}
 use Rattle.journal_inspection.specs.Inspects.{LeavesLinks}
@@ -46,6 +48,12 @@ settings_by w = record {
   voting_only = w.voting_only;
   policy = record { shrink = w.shrink; second = w.second };
 }
+
+-- the lines of an entry, by how much is to be written
+abbrev pub history_text : HistoryLevel → Settings → Life → Entry → List ℕ
+history_text history.All = entry_text
+history_text history.Acts = acts_text
+history_text history.Nothing = no_text
 
 -- the status, by how serving ended
 abbrev pub status_after : End → Status
@@ -157,7 +165,7 @@ module _ {D L : Type 0} (d : Disks D) (l : Links L Sealed) (w : NodeWords) (host
     pub end : End
     pub served : Option (List ℕ)
     pub wrote : ℕ
-    pub serves : Serves sent_of (entry_text (settings_by w)) (settings_by w) (Opened NotBegun kept) end sink.written served (l.told link)
+    pub serves : Serves sent_of (history_text w.history (settings_by w)) (settings_by w) (Opened NotBegun kept) end sink.written served (l.told link)
         (l.told link_now)
         (LivesOn d (settings_by w) kept opened back) (l.asked link) (l.asked link_now) w.turns
         (opening_text (settings_by w) (Opened NotBegun kept))

@@ -6,15 +6,15 @@ ghost use Rattle.zen_host.specs.Views.{host_view};
 ghost use Rattle.state_journal.specs.Opening.{handed_back};
 ghost use Rattle.journal_inspection.specs.Report.{not_a_journal};
 ghost use Rattle.zen_app.specs.NodeFaults.{NodeFaults, status_by};
-ghost use Rattle.zen_app.specs.NodeRuns.{EndsBy, NodeRun, RefusedBy, SaysLine, settings_by};
+ghost use Rattle.zen_app.specs.NodeRuns.{EndsBy, NodeRun, history_text, RefusedBy, SaysLine, settings_by};
 ghost use Rattle.zen_app.specs.declared.status.Status.TheVariants as exit;
 
 use crate::Status;
-use command_line::NodeWords;
+use command_line::{HistoryLevel, NodeWords};
 use coordinator::Sealed;
 use journal_inspection::write_not_a_journal;
 use master_tasks::Policy;
-use node_loop::{End, JournalNode, Node};
+use node_loop::{Acts, All, End, History, JournalNode, Node, Nothing};
 use policy_model::{NodeIds, Settings};
 use state_journal::{OpenError, Why};
 use std::alloc::{AllocError, Global};
@@ -135,6 +135,48 @@ fn write_end<S: Sink>(out: &mut S, end: End) -> Status
     }
 }
 
+// Runs one node that writes so much of its life.
+fn run_with<W: History, L: Link<Out = Sealed> + Drop, H: Host<Link = L>>(
+    alloc: Global,
+    words: &NodeWords,
+    out: &mut H::Out,
+    host: &mut H,
+) -> Status
+    requires { W.lines ≡ history_text words.now.history }
+    ensures run { NodeRun H.Disk.Disks L.Link words.now
+        (host_view H.Host host.old)
+        (host_view H.Host host.new)
+        (sink_view H.Out.Sink out.old)
+        (sink_view H.Out.Sink out.new)
+        result }
+    ensures held { H.held host.new ≡ H.held host.old }
+    ensures faults { NodeFaults H.Disk.faults L.faults (H.disk_back host.new) (H.link_back host.new) (H.faults host.old) (H.faults host.new)
+        (H.Out.faults out.old) (H.Out.faults out.new) result }
+{
+    let Ok(settings) = settings(alloc, words) else {
+        return Status::NoMemory;
+    };
+    let disk = match host.open_disk(words.dir.as_str()) {
+        Ok(disk) => disk,
+        Err(error) => return refusal(error),
+    };
+    let node: JournalNode<H::Disk, W> = match Node::open(alloc, settings, disk) {
+        Ok(node) => node,
+        Err(error) => return refuse_journal(alloc, out, host, error),
+    };
+    let mut link = match host.open_link(words.link.settings()) {
+        Ok(link) => link,
+        Err(error) => {
+            host.close_disk(node.into_disk());
+            return refusal(error);
+        }
+    };
+    let (disk, end) = node.run(&mut link, out, words.turns);
+    host.close_link(link);
+    host.close_disk(disk);
+    write_end(out, end)
+}
+
 /// Runs one node: opens the journal in its folder, then its link, serves the link from the opening on, and gives both back.
 /// It writes the node's history, which follows the policy.
 pub fn run_node<L: Link<Out = Sealed> + Drop, H: Host<Link = L>>(
@@ -153,26 +195,9 @@ pub fn run_node<L: Link<Out = Sealed> + Drop, H: Host<Link = L>>(
     ensures faults { NodeFaults H.Disk.faults L.faults (H.disk_back host.new) (H.link_back host.new) (H.faults host.old) (H.faults host.new)
         (H.Out.faults out.old) (H.Out.faults out.new) result }
 {
-    let Ok(settings) = settings(alloc, words) else {
-        return Status::NoMemory;
-    };
-    let disk = match host.open_disk(words.dir.as_str()) {
-        Ok(disk) => disk,
-        Err(error) => return refusal(error),
-    };
-    let node: JournalNode<H::Disk> = match Node::open(alloc, settings, disk) {
-        Ok(node) => node,
-        Err(error) => return refuse_journal(alloc, out, host, error),
-    };
-    let mut link = match host.open_link(words.link.settings()) {
-        Ok(link) => link,
-        Err(error) => {
-            host.close_disk(node.into_disk());
-            return refusal(error);
-        }
-    };
-    let (disk, end) = node.run(&mut link, out, words.turns);
-    host.close_link(link);
-    host.close_disk(disk);
-    write_end(out, end)
+    match words.history {
+        HistoryLevel::All => run_with::<All, L, H>(alloc, words, out, host),
+        HistoryLevel::Acts => run_with::<Acts, L, H>(alloc, words, out, host),
+        HistoryLevel::Nothing => run_with::<Nothing, L, H>(alloc, words, out, host),
+    }
 }

@@ -36,7 +36,7 @@ invariant_of-self-in-Err-Stopped g c =
 
 pub returns-in-Ok-clause-does : goal.returns-in-Ok-clause-does
 returns-in-Ok-clause-does g c s life stands start =
-    did g.K.Keeper g.met.K.Keeper.only_kept (λ r. r.node) (λ r. r.last_sent) c.args.self.now _ s life c.args.event c.in-Ok.sealed c.report-lines.result stands start
+    did g.K.Keeper g.met.K.Keeper.only_kept (λ r. r.node) (λ r. r.last_sent) g.H.History.lines c.args.self.now _ s life c.args.event c.in-Ok.sealed c.report-lines.result stands start
     (false_from_ne_true _ (λ stopped. absurd (let never = c.in-Ok.ensures.stopped.1 stopped in cc)))
     (c.in-Ok.ensures.does life stands.stands)
     (λ s2 life2 event items me right are sent answered. c.report-lines.ensures s2 life2 event items (c.args.self.now.own ∙ ap (λ x. x.me) stands.settings ∙ me) right
@@ -45,7 +45,7 @@ returns-in-Ok-clause-does g c s life stands start =
 
 pub returns-in-Err-Disk-clause-does : goal.returns-in-Err-Disk-clause-does
 returns-in-Err-Disk-clause-does g c s life stands start =
-    broke g.K.Keeper g.met.K.Keeper.only_kept (λ r. r.node) (λ r. r.last_sent) c.args.self.now _ s life c.args.event c.in-Err-Disk.entries c.report.result stands start
+    broke g.K.Keeper g.met.K.Keeper.only_kept (λ r. r.node) (λ r. r.last_sent) g.H.History.lines c.args.self.now _ s life c.args.event c.in-Err-Disk.entries c.report.result stands start
     (false_from_ne_true _ (λ stopped. absurd (let never = c.in-Err-Disk.ensures.stopped.1 stopped in let is = c.in-Err-Disk.field-0-is in cc)))
     (rw c.in-Err-Disk.field-0-is at (c.in-Err-Disk.ensures.does life stands.stands))
     (λ s2 life2 event items me. c.report.ensures s2 life2 event items (c.args.self.now.own ∙ ap (λ x. x.me) stands.settings ∙ me))

@@ -7,7 +7,7 @@ use Rattle.world_model.specs.Histories.{ContinuesUnlessFirst}
 use Rattle.policy_model.specs.Entries.{Life, Opened, log_of}
 use Rattle.policy_model.specs.Events.{acts_of}
 use Rattle.node_loop.specs.Reporting.{Reports}
-use Rattle.node_loop.proofs.opening.Node+Reporter+StateJournal+D.open.Goals as goal
+use Rattle.node_loop.proofs.opening.Node+Reporter+StateJournal+D+H.open.Goals as goal
 
 pub returns-in-Ok-clause-stands : goal.returns-in-Ok-clause-stands
 returns-in-Ok-clause-stands g c =

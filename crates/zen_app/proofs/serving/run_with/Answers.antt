@@ -3,12 +3,12 @@ use Rattle.zen_host.specs.HostCalls.{OpensDisk, OpensLink, and_call}
 use Rattle.policy_model.specs.Entries.{NotBegun, Opened}
 use Rattle.policy_model.proofs.Locals.{life_local}
 use Rattle.node_loop.specs.Reporting.{sent_of}
-use Rattle.node_loop.specs.Texts.{entry_text, opening_text}
+use Rattle.node_loop.specs.Texts.{opening_text}
 use Rattle.zen_app.specs.NodeRuns.{NodeRun, settings_by}
 use Rattle.zen_link.specs.Views.{SinkView}
 use Rattle.zen_app.proofs.NodeLives.{serves_on, opened_leaves}
 use Rattle.zen_app.proofs.NodeStages.{view_by, causes_since, rose_within, link_noted, unopened, unlinked, serving_writes, served}
-use Rattle.zen_app.proofs.serving.run_node.Goals as goal
+use Rattle.zen_app.proofs.serving.run_with.Goals as goal
 use Rattle.zen_link.proofs.Appending.{appended_none}
 
 pub returns-in-Err-open-clause-run : goal.returns-in-Err-open-clause-run
@@ -74,8 +74,8 @@ returns-clause-run g c =
       end = c.run-disk.result.1;
       served = g.H.Out.Sink.written c.run-disk.new.out;
       wrote = g.H.Out.Sink.faults c.run-disk.new.out;
-      serves = serves_on g.H.Disk.Disks g.met.H.Disk.Disks.counts_now sent_of (entry_text s) s kept opened c.run-disk.result.0 c.run-disk.result.1 _ _ _ _ _ _ c.args.words.now.turns (opening_text s life) life_local
-          (c.run-disk.ensures.serves s life stands (record { unstarted = refl; unstruck = refl }) c.in-Ok-open.ensures.reads);
+      serves = rw c.requires at (serves_on g.H.Disk.Disks g.met.H.Disk.Disks.counts_now sent_of (g.W.History.lines s) s kept opened c.run-disk.result.0 c.run-disk.result.1 _ _ _ _ _ _ c.args.words.now.turns (opening_text s life) life_local
+          (c.run-disk.ensures.serves s life stands (record { unstarted = refl; unstruck = refl }) c.in-Ok-open.ensures.reads));
       causes = causes;
       ends = c.write_end.ensures.ends;
     }) c.write_end.ensures.later

@@ -3,10 +3,10 @@ use Rattle.state_journal.specs.contracts.journal.StateJournalKeeper.TheImpl as S
 use Rattle.node_loop.specs.Crashes.{Holds}
 use Rattle.node_loop.specs.Reporting.{Reports, sent_of}
 use Rattle.node_loop.specs.Running.{StoodOn, LeavesLastOn, HoldsOn}
-use Rattle.node_loop.specs.Texts.{entry_text, opening_text}
+use Rattle.node_loop.specs.Texts.{opening_text}
 use Rattle.node_loop.specs.Turns.{Serves}
 use Rattle.node_loop.proofs.Running.{serves_mapped, holds_of}
-use Rattle.node_loop.proofs.opening.Node+Reporter+StateJournal+D.run.Goals as goal
+use Rattle.node_loop.proofs.opening.Node+Reporter+StateJournal+D+H.run.Goals as goal
 
 pub returns-clause-serves : goal.returns-clause-serves
 returns-clause-serves g c s life reports opened reads =
@@ -22,9 +22,9 @@ returns-clause-serves g c s life reports opened reads =
     let asked = g.L.Link.asked c.args.link.now in
     let asked_now = g.L.Link.asked c.serve-end.new.link in
     let turns = c.args.turns in
-    subst (λ disk. Serves sent_of (entry_text s) s life end out out_now told told_now (HoldsOn d was.node.core.keeper.log.disk disk s life) asked asked_now turns (opening_text s life))
+    subst (λ disk. Serves sent_of (g.H.History.lines s) s life end out out_now told told_now (HoldsOn d was.node.core.keeper.log.disk disk s life) asked asked_now turns (opening_text s life))
     (sym c.into_disk.ensures)
-    (serves_mapped sent_of (entry_text s) s life end out_now told told_now
+    (serves_mapped sent_of (g.H.History.lines s) s life end out_now told told_now
     (Holds (λ r s l. Reports k r.node r.last_sent s l) d.told (λ r. d.moment r.node.core.keeper.log.disk) (λ r. StoodOn d r.node.core.keeper.log.disk) (λ r. d.faults r.node.core.keeper.log.disk) was now s life)
     (HoldsOn d was.node.core.keeper.log.disk now.node.core.keeper.log.disk s life) asked asked_now turns
     (λ new h. holds_of (λ r s l. Reports k r.node r.last_sent s l) (LeavesLastOn d) d.told d.moment (StoodOn d) d.faults (λ r. r.node.core.keeper.log.disk)
