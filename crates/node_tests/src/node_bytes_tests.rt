@@ -3,7 +3,8 @@ use crate::settings::{OF_TWO, settings_of};
 use cluster_state::{ClusterState, SharedState};
 use host_io::{Framing, SocketLink, SystemHost};
 use node_bytes::{SealedFrames, is_fit};
-use node_loop::Node;
+use node_loop::{All, JournalNode, Node};
+use state_journal::OpenError;
 use std::alloc::{AllocError, Global};
 use std::io::{Read, Write};
 use std::net::{TcpListener, TcpStream};
@@ -42,7 +43,12 @@ const TURNS: u64 = 20;
 fn serve(alloc: Global, link: &mut RealLink) -> Result<(), Fail> {
     let disk = MemDisks::new(alloc, Vec::new(alloc), Vec::new(alloc), Vec::new(alloc));
     let mut out = MemSink::new(alloc, 1 << 20, Vec::new(alloc));
-    match Node::open(alloc, settings_of(alloc, &OF_TWO)?, disk) {
+    let opened: Result<JournalNode<MemDisks, All>, OpenError<MemDisks>> = Node::open(
+        alloc,
+        settings_of(alloc, &OF_TWO)?,
+        disk,
+    );
+    match opened {
         Ok(node) => {
             let _ = node.run(link, &mut out, TURNS);
             Ok(())

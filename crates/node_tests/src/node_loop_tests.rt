@@ -10,8 +10,8 @@ use crate::settings::{ALONE, Names, OF_TWO, settings_of};
 use bytes::Bytes;
 use coordinator::Sealed;
 use node_loop::{
-    End, Node, law_crash_is_kill, law_end_is_kept, law_moment_is_cut, law_next_after_end,
-    law_next_after_kill,
+    Acts, All, End, History, JournalNode, Node, Nothing, law_crash_is_kill, law_end_is_kept,
+    law_moment_is_cut, law_next_after_end, law_next_after_kill,
 };
 use policy_model::Settings;
 use state_journal::OpenError;
@@ -247,7 +247,34 @@ const ELECTED: &[&str] = &[
     "reply a {\"acked\":{\"term\":1,\"version\":2},\"id\":1}",
 ];
 
+// What is written of it by who writes only what is done.
+const ELECTED_IN_ACTS: &[&str] = &[
+    "record a 0 0/0 _ _",
+    "act a ok boot a",
+    "act a ok startjoin a 1",
+    "act a ok join a a 1 0/0",
+    "won a 1",
+    "mode a leader 1",
+    "act a ok value 1 a {\"exclusions\":[],\"master\":\"a\",\"members\":[\"a\"],\"settings\":{}}",
+    "act a ok publish a {\"committed\":[\"a\"],\"config\":[\"a\"],\"parent\":{\"term\":0,\"version\":0},\"term\":1,\"value\":{\"exclusions\":[],\"master\":\"a\",\"members\":[\"a\"],\"settings\":{}},\"version\":1}",
+    "act a ok response a a 1/1",
+    "committed {\"committed\":[\"a\"],\"config\":[\"a\"],\"parent\":{\"term\":0,\"version\":0},\"term\":1,\"value\":{\"exclusions\":[],\"master\":\"a\",\"members\":[\"a\"],\"settings\":{}},\"version\":1}",
+    "act a ok commit a 1/1",
+    "act a ok value 2 a {\"exclusions\":[],\"master\":\"a\",\"members\":[\"a\"],\"settings\":{\"k\":\"v\"}}",
+    "act a ok publish a {\"committed\":[\"a\"],\"config\":[\"a\"],\"parent\":{\"term\":1,\"version\":1},\"term\":1,\"value\":{\"exclusions\":[],\"master\":\"a\",\"members\":[\"a\"],\"settings\":{\"k\":\"v\"}},\"version\":2}",
+    "act a ok response a a 1/2",
+    "committed {\"committed\":[\"a\"],\"config\":[\"a\"],\"parent\":{\"term\":1,\"version\":1},\"term\":1,\"value\":{\"exclusions\":[],\"master\":\"a\",\"members\":[\"a\"],\"settings\":{\"k\":\"v\"}},\"version\":2}",
+];
+
 // ---- runs
+
+// How much of its life a node writes.
+#[derive(Clone, Copy)]
+enum Writes {
+    All,
+    Acts,
+    Nothing,
+}
 
 // A run of a node over an empty disk, and what is to come of it.
 #[derive(Clone, Copy)]
@@ -259,6 +286,7 @@ struct Run {
     fails: (u64, u64, u64),
     // Whether a write takes all that it is given, and not a few bytes of it.
     writes_whole: bool,
+    writes: Writes,
     end: End,
     // The lines that it writes. `...` stands for any line.
     lines: &'static [&'static str],
@@ -273,6 +301,7 @@ const SERVED: Run = Run {
     script: &[],
     fails: (0, 0, 0),
     writes_whole: false,
+    writes: Writes::All,
     end: End::Turns,
     lines: &[],
     traffic: b"",
@@ -383,6 +412,38 @@ const RUNS: &[Run] = &[
             "m2 a->b peersask b",
         ],
         traffic: b"gtgtgtgtg",
+        ..SERVED
+    },
+    Run {
+        name: "in acts there is neither what came nor what was sent",
+        script: ELECTION,
+        writes: Writes::Acts,
+        lines: ELECTED_IN_ACTS,
+        traffic: b"gtgtgtgtgtgtgtgtgtgtg",
+        ..SERVED
+    },
+    Run {
+        name: "in acts there is what was faulty, and no end of a connection",
+        script: &[OnThree(b"\0\x80\0\x01"), OnThree(b"\0\0\0"), Gone],
+        writes: Writes::Acts,
+        lines: &["record a 0 0/0 _ _", "> bad 3 TooLong"],
+        traffic: b"gtdtt",
+        ..SERVED
+    },
+    Run {
+        name: "of nothing there is the record",
+        script: ELECTION,
+        writes: Writes::Nothing,
+        lines: &["record a 0 0/0 _ _"],
+        traffic: b"gtgtgtgtgtgtgtgtgtgtg",
+        ..SERVED
+    },
+    Run {
+        name: "not even what was faulty",
+        script: &[OnThree(b"\0\x80\0\x01"), OnThree(b"\0\0\0"), Gone],
+        writes: Writes::Nothing,
+        lines: &["record a 0 0/0 _ _"],
+        traffic: b"gtdtt",
         ..SERVED
     },
     Run {
@@ -637,7 +698,7 @@ fn link_of(alloc: Global, script: &[Comes], fails: u64) -> Result<MemLink<Sealed
 }
 
 // The end of a run over a disk, and the disk that it gives back.
-fn open_and_run(
+fn open_and_run<H: History>(
     alloc: Global,
     settings: Settings,
     disk: MemDisks,
@@ -645,7 +706,7 @@ fn open_and_run(
     out: &mut MemSink,
     turns: u64,
 ) -> Result<(MemDisks, End), OpenError<MemDisks>> {
-    let node = Node::open(alloc, settings, disk)?;
+    let node: JournalNode<MemDisks, H> = Node::open(alloc, settings, disk)?;
     // What it lends here it gives back at the end.
     let _ = node.disk();
     Ok(node.run(link, out, turns))
@@ -664,7 +725,12 @@ fn ended(
         _ => 9,
     };
     let settings = settings_of(alloc, &run.names)?;
-    match open_and_run(alloc, settings, disk, link, out, turns) {
+    let ended = match run.writes {
+        Writes::All => open_and_run::<All>(alloc, settings, disk, link, out, turns),
+        Writes::Acts => open_and_run::<Acts>(alloc, settings, disk, link, out, turns),
+        Writes::Nothing => open_and_run::<Nothing>(alloc, settings, disk, link, out, turns),
+    };
+    match ended {
         Ok(ended) => Ok(ended),
         Err(_) => Err(Fail::new("the journal was not opened")),
     }
@@ -709,7 +775,7 @@ fn the_disk_of_a_run_is_opened_by_the_next_one(rt: HostRuntime) -> Result<(), Fa
 fn handed_back(alloc: Global, out: &mut MemSink) -> Result<MemDisks, Fail> {
     let settings = settings_of(alloc, &ALONE)?;
     let mut link = link_of(alloc, &[], 0)?;
-    match open_and_run(alloc, settings, empty_disk(alloc, 1)?, &mut link, out, 1) {
+    match open_and_run::<All>(alloc, settings, empty_disk(alloc, 1)?, &mut link, out, 1) {
         Err(OpenError::Disk(disk)) => Ok(disk),
         _ => Err(Fail::new("the journal was opened")),
     }
