@@ -1,5 +1,5 @@
 -- What a crash leaves in one run of reports after another.
-use Rattle.std.proofs.Common.{◌≡◌, ◌≤◌, refl, sym, ap, subst, ◌∙◌, ℕ, Bool, true, false, inl, inr, Option, List, [], ◌∷◌, ◌++◌, arith}
+use Rattle.std.proofs.Common.{◌≡◌, ◌≤◌, refl, sym, ap, subst, ◌∙◌, ℕ, Bool, true, false, Option, List, [], ◌∷◌, ◌++◌, arith}
 use Rattle.zen_disk.specs.Faults.{Rose}
 use Rattle.zen_disk.specs.Moments.{LeavesOnly, joins, quiet}
 use Rattle.cluster_state.specs.declared.state.Kept.{Kept}

@@ -1,6 +1,6 @@
 -- How a run begins after one that ended or was killed.
 use Rattle.std.proofs.Common.{◌≡◌, Bool, true, cond, List, sym, ◌∙◌, ap, subst}
-use Rattle.voting_config.specs.Ids.{Id, same}
+use Rattle.voting_config.specs.Ids.{Id}
 use Rattle.voting_config.proofs.Sets.{same_self}
 use Rattle.cluster_state.specs.declared.state.Kept.{Kept}
 use Rattle.world_model.specs.NodeState.{durable_of}

@@ -1,6 +1,5 @@
 -- What a reader of frames gave is what was left in it.
-use Rattle.std.proofs.Common.{◌≡◌, ℕ, List, [], ◌∷◌, ◌++◌, drop, Option, Some, None, Result, Ok, Err, refl, sym, ap, ◌∙◌, append_assoc, append-nil}
-use Rattle.wire_frames.specs.declared.fault.FrameError.{FrameError}
+use Rattle.std.proofs.Common.{◌≡◌, List, [], ◌∷◌, ◌++◌, drop, Some, Ok, sym, ap, ◌∙◌, append-nil}
 use Rattle.wire_frames.specs.declared.frame.Frame.{Frame}
 use Rattle.wire_frames.specs.Streams.{Ending, Rest, Fault, Stream, next_in, next_of}
 
