@@ -1,5 +1,5 @@
 -- What the words give a node.
-use Rattle.std.proofs.Common.{◌≡◌, Bool, List, [], ◌∷◌, map, refl, sym, ap, ◌∙◌}
+use Rattle.std.proofs.Common.{◌≡◌, List, [], ◌∷◌, map, refl, sym, ap, ◌∙◌}
 use Rattle.voting_config.specs.Ids.{Id}
 use Rattle.zen_link.specs.declared.link.Peer.{Peer}
 use Rattle.zen_link.specs.declared.link.LinkSettings.{LinkSettings}
