@@ -39,6 +39,58 @@ const FOUR_TURNS: &[&str] = &[
     "4",
 ];
 
+const UNTIL_STOPPED: &[&str] = &[
+    "node",
+    "--id",
+    "a",
+    "--dir",
+    "d",
+    "--listen",
+    "h:1",
+    "--peers",
+    "_",
+    "--initial",
+    "a",
+    "--turns",
+    "all",
+];
+
+const IN_ACTS: &[&str] = &[
+    "node",
+    "--id",
+    "a",
+    "--dir",
+    "d",
+    "--listen",
+    "h:1",
+    "--peers",
+    "_",
+    "--initial",
+    "a",
+    "--turns",
+    "3",
+    "--history",
+    "acts",
+];
+
+const UNWRITTEN: &[&str] = &[
+    "node",
+    "--id",
+    "a",
+    "--dir",
+    "d",
+    "--listen",
+    "h:1",
+    "--peers",
+    "_",
+    "--initial",
+    "a",
+    "--turns",
+    "3",
+    "--history",
+    "none",
+];
+
 const ENDS: &[Ending] = &[
     // it takes its turns
     (
@@ -56,6 +108,29 @@ const ENDS: &[Ending] = &[
         Status::Ok,
         b"record a 0 0/0 _ _\n> start\n> tick 1 0\nact a ok boot a\n> tick 2 0\n\
           m1 a->a startjoin a 1\n> tick 3 0\n",
+        2,
+    ),
+    (
+        b"",
+        UNTIL_STOPPED,
+        Status::Ok,
+        b"record a 0 0/0 _ _\n> start\n> tick 1 0\nact a ok boot a\n> tick 2 0\n\
+          m1 a->a startjoin a 1\n> tick 3 0\n",
+        2,
+    ),
+    // of its life it writes so much
+    (
+        b"",
+        IN_ACTS,
+        Status::Turns,
+        b"record a 0 0/0 _ _\nact a ok boot a\nzen: turns\n",
+        2,
+    ),
+    (
+        b"",
+        UNWRITTEN,
+        Status::Turns,
+        b"record a 0 0/0 _ _\nzen: turns\n",
         2,
     ),
     (
