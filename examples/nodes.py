@@ -32,14 +32,17 @@ class Node:
         # Once it is over it is not started any more, not by another thread either.
         self.lock, self.is_over = threading.Lock(), False
 
-    def settle(self, ports, initial=None, voting_only=None):
-        """Says where it and the others listen, who the first voters are: all of them, if nothing else is said, and who is voting-only."""
+    def settle(self, ports, initial=None, voting_only=None, history=None):
+        """Says where it and the others listen, who the first voters are: all of them, if nothing else is said, who is voting-only, and how much of its
+        life it writes: all, if nothing else is said."""
         self.port = ports[self.name]
         peers = ','.join('%s=%s:%d' % (name, HOST, port) for name, port in sorted(ports.items()) if name != self.name)
         self.words = ['node', '--id', self.name, '--dir', self.folder, '--listen', '%s:%d' % (HOST, self.port), '--peers', peers or '_',
                       '--initial', initial or ','.join(sorted(ports)), '--turns', str(TURNS)]
         if voting_only:
             self.words += ['--voting-only', voting_only]
+        if history:
+            self.words += ['--history', history]
 
     def start(self):
         """Starts a run. It is up once it has begun to write. Gives whether it is: where its port was taken meanwhile it has ended."""
@@ -50,7 +53,7 @@ class Node:
             self.open(self.outputs[-1])
         end = time.monotonic() + 30
         while time.monotonic() < end and self.process.poll() is None:
-            if b'> start\n' in self.read(len(self.outputs) - 1):
+            if b'\n' in self.read(len(self.outputs) - 1):
                 return True
             time.sleep(0.01)
         if self.process.poll() is None:
@@ -254,15 +257,15 @@ def free_ports(names):
     return ports
 
 
-def started(program, names, top, initial=None, voting_only=None):
-    """New nodes, all of them up. Where one finds its port taken, all begin anew."""
+def started(program, names, top, initial=None, voting_only=None, histories=None):
+    """New nodes, all of them up. Where one finds its port taken, all begin anew. `histories` says of a node that it writes less of its life."""
     for attempt in range(10):
         here = os.path.join(top, str(attempt))
         os.mkdir(here)
         nodes = {name: Node(program, name, here) for name in names}
         ports = free_ports(names)
         for node in nodes.values():
-            node.settle(ports, initial, voting_only)
+            node.settle(ports, initial, voting_only, (histories or {}).get(node.name))
         try:
             if all(node.start() for node in nodes.values()):
                 return nodes
