@@ -415,38 +415,6 @@ const RUNS: &[Run] = &[
         ..SERVED
     },
     Run {
-        name: "in acts there is neither what came nor what was sent",
-        script: ELECTION,
-        writes: Writes::Acts,
-        lines: ELECTED_IN_ACTS,
-        traffic: b"gtgtgtgtgtgtgtgtgtgtg",
-        ..SERVED
-    },
-    Run {
-        name: "in acts there is what was faulty, and no end of a connection",
-        script: &[OnThree(b"\0\x80\0\x01"), OnThree(b"\0\0\0"), Gone],
-        writes: Writes::Acts,
-        lines: &["record a 0 0/0 _ _", "> bad 3 TooLong"],
-        traffic: b"gtdtt",
-        ..SERVED
-    },
-    Run {
-        name: "of nothing there is the record",
-        script: ELECTION,
-        writes: Writes::Nothing,
-        lines: &["record a 0 0/0 _ _"],
-        traffic: b"gtgtgtgtgtgtgtgtgtgtg",
-        ..SERVED
-    },
-    Run {
-        name: "not even what was faulty",
-        script: &[OnThree(b"\0\x80\0\x01"), OnThree(b"\0\0\0"), Gone],
-        writes: Writes::Nothing,
-        lines: &["record a 0 0/0 _ _"],
-        traffic: b"gtdtt",
-        ..SERVED
-    },
-    Run {
         name: "a frame comes with its last byte",
         script: SLOWLY,
         lines: &[
@@ -563,6 +531,42 @@ const STRUCK: Run = Run {
     traffic: b"gt",
     ..ENDED
 };
+
+// Runs of a node that writes less of its life.
+const LEVELS: &[Run] = &[
+    Run {
+        name: "in acts there is neither what came nor what was sent",
+        script: ELECTION,
+        writes: Writes::Acts,
+        lines: ELECTED_IN_ACTS,
+        traffic: b"gtgtgtgtgtgtgtgtgtgtg",
+        ..SERVED
+    },
+    Run {
+        name: "in acts there is what was faulty, and no end of a connection",
+        script: &[OnThree(b"\0\x80\0\x01"), OnThree(b"\0\0\0"), Gone],
+        writes: Writes::Acts,
+        lines: &["record a 0 0/0 _ _", "> bad 3 TooLong"],
+        traffic: b"gtdtt",
+        ..SERVED
+    },
+    Run {
+        name: "of nothing there is the record",
+        script: ELECTION,
+        writes: Writes::Nothing,
+        lines: &["record a 0 0/0 _ _"],
+        traffic: b"gtgtgtgtgtgtgtgtgtgtg",
+        ..SERVED
+    },
+    Run {
+        name: "not even what was faulty",
+        script: &[OnThree(b"\0\x80\0\x01"), OnThree(b"\0\0\0"), Gone],
+        writes: Writes::Nothing,
+        lines: &["record a 0 0/0 _ _"],
+        traffic: b"gtdtt",
+        ..SERVED
+    },
+];
 
 // Runs that end by what fails, or at a stop.
 const ENDS: &[Run] = &[
@@ -751,6 +755,14 @@ fn runs_so(alloc: Global, run: &Run, disk: MemDisks) -> Result<MemDisks, Fail> {
 #[test]
 fn a_node_serves_its_link(rt: HostRuntime) -> Result<(), Fail> {
     for run in RUNS {
+        let _ = runs_so(rt.alloc(), run, empty_disk(rt.alloc(), run.fails.0)?)?;
+    }
+    Ok(())
+}
+
+#[test]
+fn a_node_writes_as_much_of_its_life_as_it_is_to(rt: HostRuntime) -> Result<(), Fail> {
+    for run in LEVELS {
         let _ = runs_so(rt.alloc(), run, empty_disk(rt.alloc(), run.fails.0)?)?;
     }
     Ok(())
