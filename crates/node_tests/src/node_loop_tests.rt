@@ -552,10 +552,10 @@ const LEVELS: &[Run] = &[
     },
     Run {
         name: "of nothing there is the record",
-        script: ELECTION,
+        script: TICKS,
         writes: Writes::Nothing,
         lines: &["record a 0 0/0 _ _"],
-        traffic: b"gtgtgtgtgtgtgtgtgtgtg",
+        traffic: b"gtgtgtg",
         ..SERVED
     },
     Run {
